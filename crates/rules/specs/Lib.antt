@@ -18,3 +18,5 @@ pub mod Vacuum
 pub mod Lookup
 pub mod Run
 pub mod WholeRun
+pub mod WordLaws
+pub mod WorkedNumbers

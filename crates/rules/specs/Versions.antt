@@ -8,6 +8,8 @@ use lib.Dec.{eqb}
 use Rattle.rules.specs.declared.TxId.{TxId}
 use Rattle.rules.specs.declared.Cell.{Cell}
 use Rattle.rules.specs.declared.Version.{Version}
+use Rattle.rules.specs.declared.Value.{Value}
+use Rattle.rules.specs.declared.Value.the-variants.{Nothing}
 use Rattle.rules.specs.declared.ReadAnswer.{ReadAnswer}
 use Rattle.rules.specs.declared.ReadAnswer.the-variants.{None, Empty, Key}
 use Rattle.rules.specs.Lists.{nonzero}
@@ -52,6 +54,11 @@ keyedOf (some k) = 1
 abbrev pub keyOf : Option ℕ → ℕ
 keyOf none = 0
 keyOf (some k) = k
+
+-- the value that a caller gives
+abbrev pub given : Value → Option ℕ
+given Nothing = none
+given (Value.Key k) = some k
 
 abbrev pub withValue : Version → Option ℕ → Version
 withValue v o = record { xmin = v .xmin; xmax = v .xmax; next = v .next; keyed = keyedOf o; key = keyOf o; locked = v .locked; owner = v .owner }

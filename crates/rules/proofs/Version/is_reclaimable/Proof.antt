@@ -1,0 +1,25 @@
+use mathlib.Core.Bool.{Bool·not-not}
+use Rattle.rules.specs.Vacuum.{reclaimable}
+use borrow.Author.Tests.{eq-eqb, ne-eqb, lt-ltb, le-ltb}
+use Rattle.rules.proofs.Version.is_reclaimable.Statement.{statement}
+use Rattle.rules.proofs.Version.is_reclaimable.Tie as tie
+use Rattle.rules.proofs.Version.is_reclaimable.Reads as reads
+use Rattle.rules.proofs.Version.is_reclaimable.Lts as lts
+
+-- src/lib.rt:204:13
+returns : tie.Need-returns
+unfolding reclaimable
+returns c = simp (eq-eqb _ _ (c .if1 .taken))
+
+-- src/lib.rt:207:13
+returns-2 : tie.Need-returns-2
+unfolding reclaimable
+returns-2 c = simp (ne-eqb _ _ (c .before .before .if1 .left), le-ltb _ _ (c .if2 .taken))
+
+-- src/lib.rt:199:5
+returns-3 : tie.Need-returns-3
+unfolding reclaimable
+returns-3 c = simp (ne-eqb _ _ (c .before .before .before .if1 .left), lt-ltb _ _ (c .before .if2 .left), Bool·not-not)
+
+pub is-reclaimable-spec : {M : Type 1} → statement M
+is-reclaimable-spec = tie.close (tie.spec returns returns-2 returns-3)
