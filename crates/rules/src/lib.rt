@@ -32,6 +32,9 @@ pub const WIDTH: usize = 504;
 // Words of a cell: xmin, xmax, next, keyed, key, locked, owner, free link.
 pub const CELL_WORDS: usize = 8;
 
+// The last id and the largest number.
+pub const LAST_ID: u64 = 18446744073709551615;
+
 // ---- places of words
 
 // Of meta: R, N, the clock, the first free cell.
