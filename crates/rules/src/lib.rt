@@ -217,11 +217,11 @@ impl Version {
     pub fn is_reclaimable(self, horizon: u64) -> bool
         ensures { λ r. ⌜ r ≡ reclaimable horizon self ⌝ }
     {
-        let xmax = self.xmax;
-        if xmax.0 == 0 {
+        let ended = self.xmax;
+        if ended.0 == 0 {
             return false;
         }
-        if xmax.0 >= horizon {
+        if ended.0 >= horizon {
             return false;
         }
         self.locked == 0
