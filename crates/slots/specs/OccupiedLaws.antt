@@ -72,6 +72,11 @@ module _ (k n : ℕ) (ss : List (List ℕ)) (i : ℕ) where
   unfolding greatest
   greatest-end c h = omega (arith, ap greatest (rest-end h))
 
+-- one slot: an empty one has id 0
+pub greatest-one : (t : List ℕ) → greatest (occupied ID (t ∷ [])) ≡ getD t ID 0
+unfolding greatest occupied
+greatest-one t = byBool (eqb (getD t ID 0) 0) (λ e. rw e (sym (eqb-true (getD t ID 0) 0 e))) (λ e. rw e (omega arith))
+
 -- ---- the lowest empty slot
 
 module _ (n : ℕ) (ss : List (List ℕ)) (i : ℕ) where

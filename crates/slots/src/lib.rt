@@ -71,12 +71,10 @@ pub fn lowest_empty(slots: &[[u64; WIDTH]]) -> usize
     i
 }
 
+// One slot's part in the greatest id: that of an empty slot is 0, and raises nothing.
 fn raised(slot: &[u64; WIDTH], floor: u64) -> u64
     ensures { λ r. ⌜ r ≡ max floor (greatest (occupied words.ID (now (slot .entry) ∷ []))) ⌝ }
 {
-    if slot[ID] == 0 {
-        return floor;
-    }
     if floor < slot[ID] {
         return slot[ID];
     }
