@@ -19,4 +19,5 @@ pub mod Lookup
 pub mod Run
 pub mod WholeRun
 pub mod WordLaws
+pub mod Verdicts
 pub mod WorkedNumbers

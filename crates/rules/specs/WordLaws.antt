@@ -1,4 +1,4 @@
--- A search of a slot's list of words, word by word: what a loop over it knows where it finds, goes on and ends.
+-- A slot's lists, member by member: what a loop over one knows where it finds, goes on and ends.
 use Prim.Native.Nat.{ℕ, zero, suc, _+_, _-_, _<_, _≤_}
 use mathlib.Core.Bool.{true, false}
 use mathlib.Core.List.{List, [], _∷_}
@@ -8,13 +8,27 @@ use native.Mathlib.Omega.{arith}
 use lib.ListN.{getD}
 use borrow.Author.Tests.{eq-eqb, ne-eqb}
 use Rattle.rules.specs.Lists.{has}
-use Rattle.rules.specs.Slots.{words}
+use Rattle.rules.specs.Slots.{words, threes}
 
 pub words-step : (t : List ℕ) (a k : ℕ) → 0 < k → words t a k ≡ getD t a 0 ∷ words t (a + 1) (k - 1)
 unfolding words
 words-step t a zero h = absurd (omega arith)
 words-step t a (suc k) h =
     let e : suc k - 1 ≡ k = omega arith in
+    rw e
+
+pub threes-step : {A : Type 0} (f : ℕ → ℕ → ℕ → A) (t : List ℕ) (a k : ℕ) → 0 < k
+    → threes f t a k ≡ f (getD t a 0) (getD t (a + 1) 0) (getD t (a + 2) 0) ∷ threes f t (a + 3) (k - 1)
+unfolding threes
+threes-step f t a zero h = absurd (omega arith)
+threes-step f t a (suc k) h =
+    let e : suc k - 1 ≡ k = omega arith in
+    rw e
+
+pub threes-done : {A : Type 0} (f : ℕ → ℕ → ℕ → A) (t : List ℕ) (a k : ℕ) → k ≤ 0 → threes f t a k ≡ []
+unfolding threes
+threes-done f t a k h =
+    let e : k ≡ 0 = omega arith in
     rw e
 
 module _ (t : List ℕ) (x a k : ℕ) where

@@ -129,6 +129,12 @@ pub enum Answer {
     Refused { number: u64, value: u64 },
 }
 
+// What a list of tests comes to: none fails, or the first that does.
+pub enum Verdict {
+    Fine,
+    Refused { number: u64, value: u64 },
+}
+
 // ---- visibility
 
 fn at_most(x: u64, most: u64) -> u64
