@@ -18,3 +18,4 @@ pub mod Vacuum
 pub mod Lookup
 pub mod Run
 pub mod WholeRun
+pub mod Theory

@@ -1,0 +1,21 @@
+-- The theory of the rules: what holds of every store that our calls lead to. Nothing here is cited by a contract but its theorems.
+pub mod Cases
+pub mod SlotLaws
+pub mod CellLaws
+pub mod Shape
+pub mod View
+pub mod Effects
+pub mod Bridge
+pub mod Counting
+pub mod Inv
+pub mod Places
+pub mod SlotSteps
+pub mod Reslot
+pub mod Publish
+pub mod CommitView
+pub mod Cells
+pub mod Writes
+pub mod Revalue
+pub mod VacuumView
+pub mod Chains
+pub mod Reading
