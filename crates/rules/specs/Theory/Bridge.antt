@@ -13,7 +13,7 @@ use borrow.Author.Tests.{eq-eqb, ne-eqb}
 use Rattle.rules.specs.declared.Version.{Version}
 use Rattle.rules.specs.Sizes.{Sizes, READS, WRITES, FREE, CLOCK, ID, LOW}
 use Rattle.rules.specs.Lists.{fold, nonzero}
-use Rattle.rules.specs.Versions.{version, versionAt, linkAt, putVersion, keyedOf, keyOf, withValue, withNext, emptyVersion, withLock}
+use Rattle.rules.specs.Versions.{versionAt, version, linkAt, putVersion, keyedOf, keyOf, withValue, withNext, emptyVersion, withLock}
 use Rattle.rules.specs.Slots.{Slot, slotOf, emptied, Rec, addRecs, write, addWrite, Write}
 use Rattle.rules.specs.Memory.{Mem, withSlot, headAt, free, clock, wordsAt}
 use Rattle.rules.specs.Snapshot.{occupied, snapLow, snapTop}
@@ -78,7 +78,7 @@ module _ (cs : List (List ℕ)) (b id : ℕ) (le : b ≤ length cs) where
 
 -- write
 module _ {z : Sizes} (m : Mem z) (s id row : ℕ) (v : Option ℕ) (sh : Shaped m) (lt : s < z .slots) (few : getD (wordsAt m s) (WRITES z) 0 < z .writes)
-  (fr : HasCell (m .cells) (free m)) (hd : headAt m row ≤ length (m .cells)) where
+    (fr : HasCell (m .cells) (free m)) (hd : headAt m row ≤ length (m .cells)) where
   pub view-prepared : viewOf (prepared m s id row v) ≡ prepareV s id row v (viewOf m)
   unfolding prepared
   view-prepared =
@@ -182,9 +182,9 @@ BasesIn cs [] = Unit {0}
 BasesIn cs (w ∷ l) = (w .base ≤ length cs) × BasesIn cs l
 
 unlock-one : (cs : List (List ℕ)) (b id : ℕ) → b ≤ length cs → (t : Bool) → t ≡ nonzero b && eqb (versionAt cs b .owner .0) id →
-  (versionAt (cond t (putVersion cs b (withLock (versionAt cs b) 0 0)) cs) ≡ cond t (upd (versionAt cs) b (withLock (versionAt cs b) 0 0)) (versionAt cs))
-  × (linkAt (cond t (putVersion cs b (withLock (versionAt cs b) 0 0)) cs) ≡ linkAt cs)
-  × (length (cond t (putVersion cs b (withLock (versionAt cs b) 0 0)) cs) ≡ length cs)
+    (versionAt (cond t (putVersion cs b (withLock (versionAt cs b) 0 0)) cs) ≡ cond t (upd (versionAt cs) b (withLock (versionAt cs b) 0 0)) (versionAt cs))
+    × (linkAt (cond t (putVersion cs b (withLock (versionAt cs b) 0 0)) cs) ≡ linkAt cs)
+    × (length (cond t (putVersion cs b (withLock (versionAt cs b) 0 0)) cs) ≡ length cs)
 unlock-one cs b id le false e = (refl, refl, refl)
 unlock-one cs b id le true e =
     let z : b ≢ 0 = λ q. let y : _≡_ {A = Bool} true false = e ∙ rw (eq-eqb b 0 q) in true≢false y in
@@ -247,8 +247,8 @@ view-begin {z} m s sh lt =
       free = getD-set-other (m .meta) CLOCK FREE (clock m + 1) 0 (omega arith) i;
       clock = getD-set-same (m .meta) CLOCK (clock m + 1) 0 (omega (arith, sh .metas)) i;
       slots =
-        (set-slots z (m .slots) s (beginWords m s)
-        ∙ ap (set (slotsOf z (m .slots)) s)
-            (slot-opened t ok (clock m) (snapLow (clock m + 1) ids) (snapTop (clock m + 1) ids) ids (few-ids (z .slots) ID (set (m .slots) s (set t ID (clock m))))
-            ∙ ap (λ (l : List ℕ). newSlot (clock m) (snapLow (clock m + 1) l) (snapTop (clock m + 1) l) l) e)) i;
+          (set-slots z (m .slots) s (beginWords m s)
+          ∙ ap (set (slotsOf z (m .slots)) s)
+          (slot-opened t ok (clock m) (snapLow (clock m + 1) ids) (snapTop (clock m + 1) ids) ids (few-ids (z .slots) ID (set (m .slots) s (set t ID (clock m))))
+          ∙ ap (λ (l : List ℕ). newSlot (clock m) (snapLow (clock m + 1) l) (snapTop (clock m + 1) l) l) e)) i;
     }

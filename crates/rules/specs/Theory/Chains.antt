@@ -44,7 +44,7 @@ chain-spelled n zero f h (c ∷ l) b s = rw (s .0, ne-eqb c 0 (s .1))
 chain-spelled n (suc k) f h [] b s = rw (eq-eqb h 0 s)
 chain-spelled n (suc k) f h (c ∷ l) b s =
     rw (s .0, ne-eqb c 0 (s .1), le-ltb n c (le-of-suc-le-suc (b .0)))
-      (ap (λ (x : Chain). chained (c ∷ x .cells) (x .after)) (chain-spelled n k f (f c .next .0) l (b .1) (s .2)))
+    (ap (λ (x : Chain). chained (c ∷ x .cells) (x .after)) (chain-spelled n k f (f c .next .0) l (b .1) (s .2)))
 
 -- the pointers spell one list
 pub spelled-same : (f : ℕ → ℕ) (h : ℕ) (a b : List ℕ) → Spelled f h a → Spelled f h b → a ≡ b
@@ -52,9 +52,9 @@ spelled-same f h [] [] s t = refl
 spelled-same f h [] (d ∷ b) s t = absurd (t .1 (sym (t .0) ∙ s))
 spelled-same f h (c ∷ a) [] s t = absurd (s .1 (sym (s .0) ∙ t))
 spelled-same f h (c ∷ a) (d ∷ b) s t =
-  let e : c ≡ d = sym (s .0) ∙ t .0 in
-  let r = spelled-same f (f c) a b (s .2) (subst (λ (x : ℕ). Spelled f (f x) b) (sym e) (t .2)) in
-  rw (e, r)
+    let e : c ≡ d = sym (s .0) ∙ t .0 in
+    let r = spelled-same f (f c) a b (s .2) (subst (λ (x : ℕ). Spelled f (f x) b) (sym e) (t .2)) in
+    rw (e, r)
 
 -- a chain that ends is spelled
 abbrev pub Walked : (ℕ → Version) → ℕ → List ℕ → After → Type 0
@@ -71,4 +71,4 @@ pub walked : (n : ℕ) (f : ℕ → Version) (k c : ℕ) → Walked f c (chain n
 unfolding chain
 walked n f zero c = byBool (eqb c 0) (λ e. rw e (eqb-true c 0 e)) (λ e. rw e tt)
 walked n f (suc k) c = byBool (eqb c 0) (λ e. rw e (eqb-true c 0 e))
-  (λ e. rw e (byBool (ltb n c) (λ q. rw q tt) (λ q. rw q (walked-on f c (chain n f k (f c .next .0) .cells) (chain n f k (f c .next .0) .after) (eqb-false c 0 e) (walked n f k (f c .next .0))))))
+    (λ e. rw e (byBool (ltb n c) (λ q. rw q tt) (λ q. rw q (walked-on f c (chain n f k (f c .next .0) .cells) (chain n f k (f c .next .0) .after) (eqb-false c 0 e) (walked n f k (f c .next .0))))))

@@ -43,12 +43,12 @@ module _ (R n : ℕ) (st : View) (g : Ghost) (h : Hist) where
   pub pend-alone : (c : ℕ) (pend : List ℕ) → Inv R n st g h (c ∷ pend) → Alone n st g c × (cnt c pend ≡ 0)
   unfolding cnt
   pend-alone c pend iv =
-    let e = iv .once c in
-    let s = cnt-same c pend in
-    let b = inb-le n c in
-    let w : inb n c ≢ 0 = omega arith in
-    let v = inb-in n c w in
-    (record { inside = v .1; real = v .0; unfree = omega arith; unrow = λ r. omega (arith, sum-at (cnt c) (g .rows) r [] refl); unslot = λ i. omega (arith, sum-at (inSlot c) (st .slots) i emptySlot refl) }, omega arith)
+      let e = iv .once c in
+      let s = cnt-same c pend in
+      let b = inb-le n c in
+      let w : inb n c ≢ 0 = omega arith in
+      let v = inb-in n c w in
+      (record { inside = v .1; real = v .0; unfree = omega arith; unrow = λ r. omega (arith, sum-at (cnt c) (g .rows) r [] refl); unslot = λ i. omega (arith, sum-at (inSlot c) (st .slots) i emptySlot refl) }, omega arith)
 
   -- a cell of row r's chain
   pub record Chained (pend : List ℕ) (c r : ℕ) : Type 0 where
@@ -63,17 +63,17 @@ module _ (R n : ℕ) (st : View) (g : Ghost) (h : Hist) where
   pub chain-cell : (pend : List ℕ) (c r : ℕ) → Inv R n st g h pend → cnt c (getD (g .rows) r []) ≢ 0 → Chained pend c r
   unfolding cnt
   chain-cell pend c r iv here =
-    let e = iv .once c in
-    let a = sum-at (cnt c) (g .rows) r [] refl in
-    let b = inb-le n c in
-    let w : inb n c ≢ 0 = omega arith in
-    let v = inb-in n c w in
-    record { inside = v .1; real = v .0; unfree = omega arith; single = omega arith; unrow = λ r′ ne. omega (arith, sum-two (cnt c) (g .rows) r r′ [] refl ne); unslot = λ i. omega (arith, sum-at (inSlot c) (st .slots) i emptySlot refl); unpend = omega arith }
+      let e = iv .once c in
+      let a = sum-at (cnt c) (g .rows) r [] refl in
+      let b = inb-le n c in
+      let w : inb n c ≢ 0 = omega arith in
+      let v = inb-in n c w in
+      record { inside = v .1; real = v .0; unfree = omega arith; single = omega arith; unrow = λ r′ ne. omega (arith, sum-two (cnt c) (g .rows) r r′ [] refl ne); unslot = λ i. omega (arith, sum-at (inSlot c) (st .slots) i emptySlot refl); unpend = omega arith }
 
   -- cell 0 is nowhere
   pub zero-nowhere : (pend : List ℕ) → Inv R n st g h pend → ((r : ℕ) → cnt 0 (getD (g .rows) r []) ≡ 0) × ((i : ℕ) → inSlot 0 (slotV st i) ≡ 0) × (cnt 0 pend ≡ 0)
   unfolding cnt
   zero-nowhere pend iv =
-    let e = iv .once 0 in
-    let z = inb-zero n in
-    (λ r. omega (arith, sum-at (cnt 0) (g .rows) r [] refl), λ i. omega (arith, sum-at (inSlot 0) (st .slots) i emptySlot refl), omega arith)
+      let e = iv .once 0 in
+      let z = inb-zero n in
+      (λ r. omega (arith, sum-at (cnt 0) (g .rows) r [] refl), λ i. omega (arith, sum-at (inSlot 0) (st .slots) i emptySlot refl), omega arith)

@@ -11,7 +11,7 @@ use lib.Dec.{eqb, leb}
 use lib.ListN.{length, take, getD}
 use borrow.Author.Tests.{eqb-true, ne-eqb, leb-true, le-leb}
 use Rattle.rules.specs.declared.ReadAnswer.{ReadAnswer}
-use Rattle.rules.specs.declared.ReadAnswer.the-variants.{None, Empty, Key}
+use Rattle.rules.specs.declared.ReadAnswer.the-variants.{Empty, Key, None}
 use Rattle.rules.specs.declared.Version.{Version}
 use Rattle.rules.specs.Sizes.{Sizes}
 use Rattle.rules.specs.Numbers.{chainTooLong, readSetFull}
@@ -45,17 +45,17 @@ abbrev pub Beyond : ℕ → Slot → (ℕ → Ver) → List ℕ → Type 0
 Beyond k t f l = (k < length l) × (pickCell t f (take k l) ≡ none)
 
 look-first : (k : ℕ) (t : Slot) (f : ℕ → Version) (l : List ℕ)
-  → (lookOf (first (λ d. visible t (f d)) (take k l)) (restOf k l) ≡ lookedAt (pickCell t (versF f) l))
-  ⊎ ((lookOf (first (λ d. visible t (f d)) (take k l)) (restOf k l) ≡ tooLong) × Beyond k t (versF f) l)
+    → (lookOf (first (λ d. visible t (f d)) (take k l)) (restOf k l) ≡ lookedAt (pickCell t (versF f) l))
+    ⊎ ((lookOf (first (λ d. visible t (f d)) (take k l)) (restOf k l) ≡ tooLong) × Beyond k t (versF f) l)
 unfolding first restOf pickCell lookedAt
 look-first zero t f [] = inl refl
 look-first zero t f (c ∷ l) = inr (refl, (omega arith, refl))
 look-first (suc k) t f [] = inl refl
 look-first (suc k) t f (c ∷ l) =
-  rw (vis-is t (f c)) (byBool (vis t (verOf (f c))) (λ e. inl (rw e)) (λ e. rw e (⊎-elim (λ a. inl a) (λ q. inr (q .0, (omega (arith, q .1 .0), q .1 .1))) (look-first k t f l))))
+    rw (vis-is t (f c)) (byBool (vis t (verOf (f c))) (λ e. inl (rw e)) (λ e. rw e (⊎-elim (λ a. inl a) (λ q. inr (q .0, (omega (arith, q .1 .0), q .1 .1))) (look-first k t f l))))
 
 pub look-pick : (n k : ℕ) (t : Slot) (f : ℕ → Version) (h : ℕ) (l : List ℕ) → AllBelow (suc n) l → Spelled (nextsF f) h l
-  → (look n t f k h ≡ lookedAt (pickCell t (versF f) l)) ⊎ ((look n t f k h ≡ tooLong) × Beyond k t (versF f) l)
+    → (look n t f k h ≡ lookedAt (pickCell t (versF f) l)) ⊎ ((look n t f k h ≡ tooLong) × Beyond k t (versF f) l)
 unfolding look
 look-pick n k t f h l b s = rw (chain-spelled n k f h l b s) (look-first k t f l)
 
@@ -69,8 +69,8 @@ pub pick-cases : (t : Slot) (f : ℕ → Ver) (l : List ℕ) → ((pickCell t f 
 unfolding pickCell pick cnt
 pick-cases t f [] = inl (refl, refl)
 pick-cases t f (c ∷ l) = byBool (vis t (f c))
-  (λ e. inr (c, rw e, record { among = λ z. cnt-head c c l z refl; sees = e; shows = rw e }))
-  (λ e. ⊎-elim (λ a. inl (rw e (a .0), rw e (a .1)))
+    (λ e. inr (c, rw e, record { among = λ z. cnt-head c c l z refl; sees = e; shows = rw e }))
+    (λ e. ⊎-elim (λ a. inl (rw e (a .0), rw e (a .1)))
     (λ b. inr (b .0, rw e (b .1), record { among = λ z. b .2 .among (cnt-tail (b .0) c l z); sees = b .2 .sees; shows = rw e (b .2 .shows) })) (pick-cases t f l))
 
 -- ---- own writes: the last entry is the only one
@@ -84,8 +84,8 @@ module _ (f : ℕ → Ver) (r : ℕ) where
   unfolding ownFind
   own-cons u l once none a = byBool (eqb (u .row) r) (λ e. rw e (rw e, λ z. cnt-head (u .new) (u .new) (news l) z refl)) (λ e. rw e (rw e a))
   own-cons u l once (some v) a = byBool (eqb (u .row) r)
-    (λ e. let z : some (f (v .new) .val) ≡ none = sym (a .0) ∙ rw (eqb-true (u .row) r e) at once in let q : _≡_ {A = ℕ} 0 1 = cc in absurd (omega arith))
-    (λ e. (rw e (a .0), λ z. a .1 (cnt-tail (v .new) (u .new) (news l) z)))
+      (λ e. let z : some (f (v .new) .val) ≡ none = sym (a .0) ∙ rw (eqb-true (u .row) r e) at once in let q : _≡_ {A = ℕ} 0 1 = cc in absurd (omega arith))
+      (λ e. (rw e (a .0), λ z. a .1 (cnt-tail (v .new) (u .new) (news l) z)))
 
   pub own-is : (R t : ℕ) (ws : List Write) → Entries f R t ws → Own f ws r (own ws r)
   unfolding own last ownFind
@@ -94,10 +94,15 @@ module _ (f : ℕ → Ver) (r : ℕ) where
 
 -- ---- what a read may answer
 
+-- a value as an answer: "a version without a key, or a key"
+abbrev pub valueAnswer : Option ℕ → ReadAnswer
+valueAnswer none = Empty
+valueAnswer (some k) = Key k
+
+-- what history says as an answer: no version, or the value said
 abbrev pub answerV : Option Val → ReadAnswer
 answerV none = None
-answerV (some none) = Empty
-answerV (some (some k)) = Key k
+answerV (some x) = valueAnswer (x .value)
 
 answer-val : (f : ℕ → Version) (c : ℕ) → c ≢ 0 → answerAt f c ≡ answerV (some (verOf (f c) .val))
 unfolding answerAt verOf
@@ -116,31 +121,31 @@ module _ (z : Sizes) (R n : ℕ) (st : View) (g : Ghost) (h : Hist) (i r : ℕ) 
   unfolding sightOf lookedAt answerAt
   walked e k (inr b) = rw (b .0) (long (b .1))
   walked e k (inl q) = ⊎-elim
-    (λ a. rw (q, a .0) (right 0 [] (rw (e, sym ((iv .opens i op) .reads r) ∙ a .1) refl)))
-    (λ b.
+      (λ a. rw (q, a .0) (right 0 [] (rw (e, sym ((iv .opens i op) .reads r) ∙ a .1) refl)))
+      (λ b.
       let c = b .0 in
       let s = b .2 in
       let nz = chain-cell R (suc n) st g h [] c r iv (s .among) .real in
       let ok : answerAt (st .vers) c ≡ answerV (orElse (h .own i r) (h .view i r)) = rw (e, sym ((iv .opens i op) .reads r) ∙ s .shows) (answer-val (st .vers) c nz) in
       rw (q, b .1) (byBool (recorded c (slotV st i .recs)) (λ y. rw y (right c [] ok))
-        (λ y. rw y (byBool (leb (z .reads) (length (slotV st i .recs))) (λ f. rw f (full (leb-true _ _ f))) (λ f. rw f (right c _ ok))))))
-    (pick-cases (slotV st i) (vers st) (getD (g .rows) r []))
+      (λ y. rw y (byBool (leb (z .reads) (length (slotV st i .recs))) (λ f. rw f (full (leb-true _ _ f))) (λ f. rw f (right c _ ok))))))
+      (pick-cases (slotV st i) (vers st) (getD (g .rows) r []))
 
   own-cell : (c : ℕ) → inSlot c (slotV st i) ≢ 0 → (c ≢ 0) × (c < suc n)
   unfolding cnt
   own-cell c a =
-    let b = sum-at (inSlot c) (st .slots) i emptySlot refl in
-    let once = iv .once c in
-    inb-in (suc n) c (omega arith)
+      let b = sum-at (inSlot c) (st .slots) i emptySlot refl in
+      let once = iv .once c in
+      inb-in (suc n) c (omega arith)
 
   own-right : (o : Option Write) → Own (vers st) (slotV st i .writes) r o → Right z st g h i r (ownSight z n (st .vers) (st .heads r) (slotV st i) (slotV st i .recs) r o)
   unfolding ownSight
   own-right none a = walked (sym ((iv .opens i op) .owns r) ∙ a) _
-    (look-pick n (z .walk) (slotV st i) (st .vers) (st .heads r) (getD (g .rows) r []) (all-below (suc n) _ (λ c q. chain-cell R (suc n) st g h [] c r iv q .inside)) (iv .chain r inR))
+      (look-pick n (z .walk) (slotV st i) (st .vers) (st .heads r) (getD (g .rows) r []) (all-below (suc n) _ (λ c q. chain-cell R (suc n) st g h [] c r iv q .inside)) (iv .chain r inR))
   own-right (some w) a =
-    let v = own-cell (w .new) (a .1) in
-    let le : w .new ≤ n = le-of-suc-le-suc (v .1) in
-    rw (ne-eqb (w .new) 0 (v .0), le-leb (w .new) n le) (right (w .new) [] (rw (sym ((iv .opens i op) .owns r) ∙ a .0) (answer-val (st .vers) (w .new) (v .0))))
+      let v = own-cell (w .new) (a .1) in
+      let le : w .new ≤ n = le-of-suc-le-suc (v .1) in
+      rw (ne-eqb (w .new) 0 (v .0), le-leb (w .new) n le) (right (w .new) [] (rw (sym ((iv .opens i op) .owns r) ∙ a .0) (answer-val (st .vers) (w .new) (v .0))))
 
   -- DEMAND 3 of one row's read
   pub read-right : Right z st g h i r (readRow z n (st .vers) (st .heads r) (slotV st i) (slotV st i .recs) r)

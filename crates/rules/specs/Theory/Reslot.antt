@@ -15,17 +15,17 @@ use Rattle.rules.specs.Theory.Cases.{byEq}
 use Rattle.rules.specs.Theory.View.{View, emptySlot}
 use Rattle.rules.specs.Theory.Effects.{slotV, putSlot}
 use Rattle.rules.specs.Theory.Counting.{cnt, sum-set}
-use Rattle.rules.specs.Theory.Inv.{Ghost, Hist, Val, Inv, ownFind, vers, Entries, AllRec, Recorded, vis, Ver, pick, places, inb, inSlot, Snap, Open, all-map}
-use Rattle.rules.specs.Theory.SlotSteps.{open-in, top-set, snap-set}
+use Rattle.rules.specs.Theory.Inv.{Ghost, Hist, Val, Inv, ownFind, vers, Entries, All, Recorded, Apart, vis, Ver, pick, Single, places, inb, inSlot, Snap, Open, all-map}
+use Rattle.rules.specs.Theory.SlotSteps.{open-in, top-set, open-beside}
 
 abbrev pub reslot : View → ℕ → List Write → List Rec → Slot
 reslot st i ws rs = record { id = slotV st i .id; top = slotV st i .top; low = slotV st i .low; active = slotV st i .active; writes = ws; recs = rs }
 
 module _ (R n : ℕ) (st : View) (g : Ghost) (h : Hist) (pend pend′ : List ℕ) (i : ℕ) (ws : List Write) (rs : List Rec) (own′ : ℕ → ℕ → Option Val)
-  (iv : Inv R n st g h pend) (op : slotV st i .id ≢ 0)
-  (cs : (x : ℕ) → cnt x (news ws) + cnt x pend′ ≡ cnt x (news (slotV st i .writes)) + cnt x pend)
-  (here : (r : ℕ) → ownFind (vers st) ws r ≡ own′ i r) (there : (j r : ℕ) → j ≢ i → own′ j r ≡ h .own j r)
-  (en : Entries (vers st) R (slotV st i .id) ws) (rc : AllRec (Recorded (vers st) (g .rows) (slotV st i)) rs) where
+    (iv : Inv R n st g h pend) (op : slotV st i .id ≢ 0)
+    (cs : (x : ℕ) → cnt x (news ws) + cnt x pend′ ≡ cnt x (news (slotV st i .writes)) + cnt x pend)
+    (here : (r : ℕ) → ownFind (vers st) ws r ≡ own′ i r) (there : (j r : ℕ) → j ≢ i → own′ j r ≡ h .own j r)
+    (en : Entries (vers st) R (slotV st i .id) ws) (rc : All (Recorded (vers st) (g .rows) (slotV st i)) rs) (ap₁ : Apart rs) where
   abbrev s′ : Slot
   s′ = reslot st i ws rs
 
@@ -52,38 +52,54 @@ module _ (R n : ℕ) (st : View) (g : Ghost) (h : Hist) (pend pend′ : List ℕ
   pick-same f [] = refl
   pick-same f (c ∷ l) = rw (vis-same (f c), pick-same f l)
 
+  single-same : (f : ℕ → Ver) (l : List ℕ) → Single (slotV st i) f l → Single s′ f l
+  unfolding vis creatorVisible
+  single-same f [] a = tt
+  single-same f (c ∷ l) a = (a .0, single-same f l (a .1))
+
   counts : (x : ℕ) → places g (set (st .slots) i s′) pend′ x ≡ inb n x
   counts x = omega (arith, iv .once x, cs x, sum-set (inSlot x) (st .slots) i s′ emptySlot (open-in (st .slots) i op))
 
   this-snap : Snap (st .clock) (st′ .slots) i
   this-snap =
-    let sn = (iv .opens i op) .snap in
-    record {
-      begun = rw this-slot (sn .begun);
-      below = λ x nz lo. rw (this-slot, cv-same x) (sn .below x nz (rw this-slot at lo));
-      hides = λ j ne. rw (this-slot, elsewhere j ne, cv-same) (sn .hides j ne);
-      after = λ x le. rw (this-slot, cv-same x) (sn .after x le) }
+      let sn = (iv .opens i op) .snap in
+      record {
+        begun = rw this-slot (sn .begun);
+        below = λ x nz lo. rw (this-slot, cv-same x) (sn .below x nz (rw this-slot at lo));
+        hides = λ j ne. rw (this-slot, elsewhere j ne, cv-same) (sn .hides j ne);
+        after = λ x le. rw (this-slot, cv-same x) (sn .after x le);
+      }
 
-  this-open : Open R st′ g (record { last = h .last; view = h .view; own = own′ }) i
-  this-open = record {
-    snap = this-snap;
-    reads = λ r. rw this-slot (pick-same (vers st) (getD (g .rows) r []) ∙ (iv .opens i op) .reads r);
-    owns = λ r. rw this-slot (here r);
-    entries = rw this-slot en;
-    records = rw this-slot (all-map _ _ rs (λ q a. record { placed = a .placed; minned = a .minned; seen = vis-same _ ∙ a .seen }) rc) }
+  abbrev h′ : Hist
+  h′ = record { last = h .last; who = h .who; view = h .view; own = own′ }
 
-  pub reslot-inv : Inv R n (putSlot st i (reslot st i ws rs)) g (record { last = h .last; view = h .view; own = own′ }) pend′
+  this-open : Open R st′ g h′ i
+  this-open =
+      let o = iv .opens i op in
+      record {
+        snap = this-snap;
+        taken = rw this-slot (record { self = o .taken .self; lowest = o .taken .lowest; above = o .taken .above; early = o .taken .early });
+        reads = λ r. rw this-slot (pick-same (vers st) (getD (g .rows) r []) ∙ o .reads r);
+        single = λ r. rw this-slot (single-same (vers st) (getD (g .rows) r []) (o .single r));
+        owns = λ r. rw this-slot (here r);
+        entries = rw this-slot en;
+        records = rw this-slot (all-map _ _ rs (λ q a. record { placed = a .placed; minned = a .minned; seen = vis-same _ ∙ a .seen }) rc);
+        apart = rw this-slot ap₁;
+      }
+
+  pub reslot-inv : Inv R n (putSlot st i (reslot st i ws rs)) g (record { last = h .last; who = h .who; view = h .view; own = own′ }) pend′
   reslot-inv =
-    let lt = open-in (st .slots) i op in
-    record {
-      once = counts; ticking = iv .ticking; rowed = iv .rowed; chain = iv .chain; frees = iv .frees;
-      tops = λ r. top-set (st .clock) (st .clock) (st .slots) i s′ (omega arith) lt (vers st) (getD (g .rows) r []) (h .last r) (λ x sx. sx .shut i) (iv .tops r);
-      closed = λ j z. byEq j i (λ q. absurd (op (rw (q, this-slot) at z))) (λ q. rw (elsewhere j q) (iv .closed j (rw (elsewhere j q) at z)));
-      opens = λ j oj. byEq j i (λ q. rw q this-open) (λ q.
-        let o = iv .opens j (rw (elsewhere j q) at oj) in
-        record {
-          snap = snap-set (st .clock) (st .clock) (st .slots) i s′ (omega arith) lt j q (o .snap .hides i (λ e. q (sym e))) (o .snap);
-          reads = λ r. rw (elsewhere j q) (o .reads r);
-          owns = λ r. rw (elsewhere j q) (o .owns r ∙ sym (there j r q));
-          entries = rw (elsewhere j q) (o .entries);
-          records = rw (elsewhere j q) (o .records) }) }
+      let lt = open-in (st .slots) i op in
+      record {
+        once = counts;
+        ticking = iv .ticking;
+        rowed = iv .rowed;
+        chain = iv .chain;
+        frees = iv .frees;
+        tops = λ r. top-set (st .clock) (st .clock) (st .slots) i s′ (omega arith) lt (vers st) (getD (g .rows) r []) (h .last r) (λ x sx. sx .shut i) (iv .tops r);
+        known = λ j. byEq j i (λ q. rw (q, this-slot) (iv .known i)) (λ q. rw (elsewhere j q) (iv .known j));
+        closed = λ j z. byEq j i (λ q. absurd (op (rw (q, this-slot) at z))) (λ q. rw (elsewhere j q) (iv .closed j (rw (elsewhere j q) at z)));
+        opens = λ j oj. byEq j i (λ q. rw q this-open) (λ q.
+            let o = iv .opens j (rw (elsewhere j q) at oj) in
+            open-beside R st g h h′ i s′ (st .clock) (omega arith) lt j q (o .snap .hides i (λ e. q (sym e))) (λ r. refl) (λ r. there j r q) o);
+      }

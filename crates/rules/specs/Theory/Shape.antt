@@ -20,8 +20,9 @@ module _ {z : Sizes} (ss : List (List ℕ)) (s : ℕ) (t : List ℕ) (ok : Slots
   slots-ok k = record {
     count = simp length-set (ok .count);
     each = λ j lj. byEq j s
-      (λ e. rw (e, getD-set-same ss s t [] (omega (arith, ok .count))) k)
-      (λ ne. rw (getD-set-other ss s j t [] ne) (ok .each j lj)) }
+        (λ e. rw (e, getD-set-same ss s t [] (omega (arith, ok .count))) k)
+        (λ ne. rw (getD-set-other ss s j t [] ne) (ok .each j lj));
+  }
 
 pub record Shaped {z : Sizes} (m : Mem z) : Type 0 where
   pub roomy : Roomy z

@@ -98,11 +98,18 @@ module _ (t : List ℕ) (a x y v : ℕ) where
 
     -- the list is one longer
     pub push-list : {A : Type 0} (f : ℕ → ℕ → ℕ → A) (most : ℕ) → getD t a 0 < most
-      → threes f (push a x y v t) (a + 1) (capped (push a x y v t) a most) ≡ threes f t (a + 1) (capped t a most) ++ (f x y v ∷ [])
+        → threes f (push a x y v t) (a + 1) (capped (push a x y v t) a most) ≡ threes f t (a + 1) (capped t a most) ++ (f x y v ∷ [])
     push-list f most few =
-        rw (capped-is (push a x y v t) a most (rw push-count few), capped-is t a most (omega arith), push-count,
-            threes-more f (push a x y v t) (a + 1) (getD t a 0) (a + 1 + 3 * getD t a 0) refl, push-x, push-y, push-v,
-            threes-agree f (push a x y v t) t (a + 1) (getD t a 0) (λ i p q. push-else i (omega arith) (λ w. omega arith)))
+        rw (
+          capped-is (push a x y v t) a most (rw push-count few),
+          capped-is t a most (omega arith),
+          push-count,
+          threes-more f (push a x y v t) (a + 1) (getD t a 0) (a + 1 + 3 * getD t a 0) refl,
+          push-x,
+          push-y,
+          push-v,
+          threes-agree f (push a x y v t) t (a + 1) (getD t a 0) (λ i p q. push-else i (omega arith) (λ w. omega arith)),
+        )
 
 -- ---- the slot as a whole
 
@@ -155,7 +162,8 @@ module _ {z : Sizes} (t : List ℕ) (ok : SlotOk z t) where
       long = rw (length-push t (WRITES z) (w .row) (w .base) (w .new)) (ok .long);
       actives = rw (write-else ACTIVE (omega arith) (λ h. omega arith)) (ok .actives);
       writes = rw (push-count t (WRITES z) (w .row) (w .base) (w .new) (omega (arith, ok .long))) lt;
-      reads = rw (write-else (READS z) (omega arith) (λ h. omega arith)) (ok .reads) }
+      reads = rw (write-else (READS z) (omega arith) (λ h. omega arith)) (ok .reads);
+    }
 
   module _ (q : Rec) (lt : getD t (READS z) 0 < z .reads) where
     rec-else : (j : ℕ) → j < READS z → getD (addRec z q t) j 0 ≡ getD t j 0
@@ -183,11 +191,12 @@ module _ {z : Sizes} (t : List ℕ) (ok : SlotOk z t) where
       long = rw (length-push t (READS z) (q .row) (q .cell) (q .xmin)) (ok .long);
       actives = rw (rec-else ACTIVE (omega arith)) (ok .actives);
       writes = rw (rec-else (WRITES z) (omega arith)) (ok .writes);
-      reads = rw rec-count lt }
+      reads = rw rec-count lt;
+    }
 
 -- several records: those of a lookup
 pub slot-recs : {z : Sizes} (l : List Rec) (t : List ℕ) → SlotOk z t → getD t (READS z) 0 + length l ≤ z .reads
-  → (slotOf z (addRecs z l t) ≡ withRecs (slotOf z t) l) × SlotOk z (addRecs z l t)
+    → (slotOf z (addRecs z l t) ≡ withRecs (slotOf z t) l) × SlotOk z (addRecs z l t)
 unfolding fold
 slot-recs {z} [] t ok le = (ap (putRecs (slotOf z t)) (sym (append-nil (slotOf z t .recs))), ok)
 slot-recs {z} (q ∷ l) t ok le =
@@ -253,7 +262,8 @@ module _ {z : Sizes} (t : List ℕ) (ok : SlotOk z t) (id low top : ℕ) (active
     long = simp (length-set, length-sets) (ok .long);
     actives = rw opened-active few;
     writes = rw opened-writes (omega arith);
-    reads = rw opened-reads (omega arith) }
+    reads = rw opened-reads (omega arith);
+  }
 
   pub slot-opened : slotOf z new ≡ newSlot id low top active
   unfolding slotOf words threes
@@ -294,4 +304,5 @@ emptied-ok z rm = record {
   long = rw (length-replicate {A = ℕ} (z .width) 0) (rm .room);
   actives = rw (getD-zeros (z .width) ACTIVE) (omega arith);
   writes = rw (getD-zeros (z .width) (WRITES z)) (omega arith);
-  reads = rw (getD-zeros (z .width) (READS z)) (omega arith) }
+  reads = rw (getD-zeros (z .width) (READS z)) (omega arith);
+}

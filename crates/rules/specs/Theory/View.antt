@@ -64,8 +64,8 @@ module _ (cs : List (List ℕ)) (c : ℕ) (v : Version) (l : ℕ) (h : HasCell c
 -- a version stored with its link kept: the links are as they were
 pub keep-links : (cs : List (List ℕ)) (c : ℕ) (v : Version) → HasCell cs c → linkAt (putCell cs c v (linkAt cs c)) ≡ linkAt cs
 keep-links cs c v h = fun-ext (λ d. byEq d c
-  (λ q. subst (λ (k : ℕ). linkAt (putCell cs c v (linkAt cs c)) k ≡ linkAt cs k) (sym q) (put-link cs c v (linkAt cs c) h))
-  (λ n. ap (λ (w : List ℕ). getD w 7 0) (put-else cs c v (linkAt cs c) d (h .low) n)))
+    (λ q. subst (λ (k : ℕ). linkAt (putCell cs c v (linkAt cs c)) k ≡ linkAt cs k) (sym q) (put-link cs c v (linkAt cs c) h))
+    (λ n. ap (λ (w : List ℕ). getD w 7 0) (put-else cs c v (linkAt cs c) d (h .low) n)))
 
 -- a word of a list of words, as a function
 pub set-word : (l : List ℕ) (i x : ℕ) → i < length l → (λ (j : ℕ). getD (set l i x) j 0) ≡ upd (λ (j : ℕ). getD l j 0) i x

@@ -2,22 +2,22 @@
 use mathlib.Core.List.{List, [], _∷_, _++_}
 use mathlib.Core.Logic.{_≢_}
 use mathlib.Core.Option.{none, some, Option}
-use mathlib.Core.Path.{_≡_, refl, ap, _∙_, sym, subst}
+use mathlib.Core.Path.{_≡_, refl, sym, _∙_, ap, subst}
 use Prim.Native.Nat.{ℕ, _+_, _<_}
 use native.Mathlib.Omega.{arith}
 use lib.ListN.{getD}
 use borrow.Author.Tests.{ne-eqb, eq-eqb}
 use Rattle.rules.specs.declared.Version.{Version}
 use Rattle.rules.specs.Lists.{first}
-use Rattle.rules.specs.Versions.{at, version, keyedOf, keyOf}
-use Rattle.rules.specs.Slots.{write, Write}
+use Rattle.rules.specs.Versions.{at, newVersion}
+use Rattle.rules.specs.Slots.{Write, write}
 use Rattle.rules.specs.Abort.{news}
 use Rattle.rules.specs.Theory.Cases.{byEq}
 use Rattle.rules.specs.Theory.SlotLaws.{withWrite}
 use Rattle.rules.specs.Theory.View.{View, upd, emptySlot, upd-other, upd-same}
 use Rattle.rules.specs.Theory.Effects.{slotV, putSlot, prepareV, withVers, lockV}
 use Rattle.rules.specs.Theory.Counting.{cnt, cnt-same, sum-at}
-use Rattle.rules.specs.Theory.Inv.{Ver, vers, Ghost, Hist, Inv, places, inb, inSlot, nexts, spelled-frame, top-frame, pick-frame, own-frame, entries-frame, all-map, recorded-frame, verOf, ownFind, Entries, Val}
+use Rattle.rules.specs.Theory.Inv.{Ver, vers, Ghost, Hist, Inv, places, inb, inSlot, nexts, spelled-frame, top-frame, open-frame, verOf, ownFind, Entries, Val, said}
 use Rattle.rules.specs.Theory.Places.{Alone, inb-le, inb-in}
 use Rattle.rules.specs.Theory.Reslot.{reslot-inv}
 use Rattle.rules.specs.Theory.Publish.{versF, nextsF, part-off, ofNext, part-on}
@@ -41,35 +41,32 @@ module _ (R n : ℕ) (st : View) (g : Ghost) (h : Hist) (c : ℕ) (l : List ℕ)
   take-alone : Alone n st taken c
   unfolding cnt
   take-alone =
-    let e = take-counts c in
-    let s = cnt-same c [] in
-    let b = inb-le n c in
-    let w : inb n c ≢ 0 = omega arith in
-    let v = inb-in n c w in
-    record { inside = v .1; real = v .0; unfree = omega arith; unrow = λ r. omega (arith, sum-at (cnt c) (g .rows) r [] refl); unslot = λ i. omega (arith, sum-at (inSlot c) (st .slots) i emptySlot refl) }
+      let e = take-counts c in
+      let s = cnt-same c [] in
+      let b = inb-le n c in
+      let w : inb n c ≢ 0 = omega arith in
+      let v = inb-in n c w in
+      record { inside = v .1; real = v .0; unfree = omega arith; unrow = λ r. omega (arith, sum-at (cnt c) (g .rows) r [] refl); unslot = λ i. omega (arith, sum-at (inSlot c) (st .slots) i emptySlot refl) }
 
   free-is : st .free ≡ c
   free-is = (rw fls at (iv .frees)) .0
 
   module _ (m′ : ℕ → Version) (l′ : ℕ → ℕ) (vs : (d : ℕ) → d ≢ c → versF m′ d ≡ vers st d) (ns : (d : ℕ) → d ≢ c → nextsF m′ d ≡ nexts st d)
-    (ls : (d : ℕ) → d ≢ c → l′ d ≡ st .links d) where
+      (ls : (d : ℕ) → d ≢ c → l′ d ≡ st .links d) where
     handed : Inv R n (record { vers = m′; links = l′; heads = st .heads; free = st .links c; clock = st .clock; slots = st .slots }) taken h (c ∷ [])
     handed =
-      let a = take-alone in
-      record {
-        once = take-counts;
-        ticking = iv .ticking;
-        rowed = iv .rowed;
-        chain = λ r lt. spelled-frame (nexts st) (nextsF m′) c _ _ ns (a .unrow r) (iv .chain r lt);
-        frees = spelled-frame (st .links) (l′) c _ l ls (a .unfree) ((rw fls at (iv .frees)) .2);
-        tops = λ r. top-frame (vers st) (versF m′) c vs (st .clock) (st .slots) (getD (g .rows) r []) (h .last r) (a .unrow r) (iv .tops r);
-        closed = iv .closed;
-        opens = λ i op. let o = iv .opens i op in record {
-          snap = o .snap;
-          reads = λ r. pick-frame (slotV st i) (vers st) (versF m′) c _ vs (a .unrow r) ∙ o .reads r;
-          owns = λ r. own-frame (vers st) (versF m′) c vs (slotV st i .writes) r (a .unslot i) ∙ o .owns r;
-          entries = entries-frame (vers st) (versF m′) c vs R (slotV st i .id) (slotV st i .writes) (a .unslot i) (o .entries);
-          records = all-map _ _ (slotV st i .recs) (recorded-frame (vers st) (versF m′) c vs (g .rows) (slotV st i) (a .unrow)) (o .records) } }
+        let a = take-alone in
+        record {
+          once = take-counts;
+          ticking = iv .ticking;
+          rowed = iv .rowed;
+          chain = λ r lt. spelled-frame (nexts st) (nextsF m′) c _ _ ns (a .unrow r) (iv .chain r lt);
+          frees = spelled-frame (st .links) (l′) c _ l ls (a .unfree) ((rw fls at (iv .frees)) .2);
+          tops = λ r. top-frame (vers st) (versF m′) c vs (st .clock) (st .slots) (getD (g .rows) r []) (h .last r) (a .unrow r) (iv .tops r);
+          known = iv .known;
+          closed = iv .closed;
+          opens = λ i op. open-frame R st _ g taken h c i refl refl refl vs (a .unrow) (a .unslot i) (iv .opens i op);
+        }
 
   pub take-inv : (v : Version) → Inv R n (takeV c v st) taken h (c ∷ [])
   take-inv v = handed _ _ (part-off verOf (st .vers) c v) (part-off ofNext (st .vers) c v) (λ d ne. upd-other (st .links) c d 0 ne)
@@ -93,32 +90,32 @@ own-snoc-same f (u ∷ ws) w e = rw (ne-eqb (u .row) (w .row) (no-entry f u ws (
 entries-snoc : (f : ℕ → Ver) (R t : ℕ) (ws : List Write) (w : Write) → Entries f R t ws → ownFind f ws (w .row) ≡ none → Entries f R t (w ∷ []) → Entries f R t (ws ++ w ∷ [])
 entries-snoc f R t [] w en e new = new
 entries-snoc f R t (u ∷ ws) w en e new =
-  (en .0, en .1, en .2, own-snoc-other f ws w (u .row) (λ q. no-entry f u ws (w .row) e .0 (sym q)) ∙ en .3, entries-snoc f R t ws w (en .4) (no-entry f u ws (w .row) e .1) new)
+    (en .0, en .1, en .2, own-snoc-other f ws w (u .row) (λ q. no-entry f u ws (w .row) e .0 (sym q)) ∙ en .3, entries-snoc f R t ws w (en .4) (no-entry f u ws (w .row) e .1) new)
 
 module _ (R n : ℕ) (st : View) (g : Ghost) (h : Hist) (i : ℕ) (w : Write) (iv : Inv R n st g h (w .new ∷ [])) (op : slotV st i .id ≢ 0)
-  (inR : w .row < R) (first : ownFind (vers st) (slotV st i .writes) (w .row) ≡ none)
-  (xm : vers st (w .new) .xmin ≡ slotV st i .id) (x0 : vers st (w .new) .xmax ≡ 0) where
+    (inR : w .row < R) (first : ownFind (vers st) (slotV st i .writes) (w .row) ≡ none)
+    (xm : vers st (w .new) .xmin ≡ slotV st i .id) (x0 : vers st (w .new) .xmax ≡ 0) where
   abbrev pub entered : Hist
-  entered = record { last = h .last; view = h .view; own = upd (h .own) i (upd (h .own i) (w .row) (some (vers st (w .new) .val))) }
+  entered = record { last = h .last; who = h .who; view = h .view; own = upd (h .own) i (upd (h .own i) (w .row) (some (vers st (w .new) .val))) }
 
   this-owns : (r : ℕ) → ownFind (vers st) (slotV st i .writes ++ w ∷ []) r ≡ entered .own i r
   this-owns r = rw (upd-same (h .own) i _) (byEq r (w .row)
-    (λ q. rw (q, upd-same (h .own i) (w .row) (some (vers st (w .new) .val))) (own-snoc-same (vers st) (slotV st i .writes) w first))
-    (λ q. rw (upd-other (h .own i) (w .row) r (some (vers st (w .new) .val)) q) (own-snoc-other (vers st) (slotV st i .writes) w r (λ e. q (sym e)) ∙ (iv .opens i op) .owns r)))
+      (λ q. rw (q, upd-same (h .own i) (w .row) (some (vers st (w .new) .val))) (own-snoc-same (vers st) (slotV st i .writes) w first))
+      (λ q. rw (upd-other (h .own i) (w .row) r (some (vers st (w .new) .val)) q) (own-snoc-other (vers st) (slotV st i .writes) w r (λ e. q (sym e)) ∙ (iv .opens i op) .owns r)))
 
   pub enter-inv : Inv R n (putSlot st i (withWrite (slotV st i) w)) g entered []
   unfolding ownFind cnt
   enter-inv = reslot-inv R n st g h (w .new ∷ []) [] i (slotV st i .writes ++ w ∷ []) (slotV st i .recs) (entered .own) iv op
-    (λ x. omega (arith, news-snoc x (slotV st i .writes) w)) this-owns (λ j r q. ap (λ (f : ℕ → Option Val). f r) (upd-other (h .own) i j _ q))
-    (entries-snoc (vers st) R (slotV st i .id) (slotV st i .writes) w ((iv .opens i op) .entries) first (inR, xm, x0, refl, tt)) ((iv .opens i op) .records)
+      (λ x. omega (arith, news-snoc x (slotV st i .writes) w)) this-owns (λ j r q. ap (λ (f : ℕ → Option Val). f r) (upd-other (h .own) i j _ q))
+      (entries-snoc (vers st) R (slotV st i .id) (slotV st i .writes) w ((iv .opens i op) .entries) first (inR, xm, x0, refl, tt)) ((iv .opens i op) .records) ((iv .opens i op) .apart)
 
 -- WRITE, a new entry: the whole call
 module _ (R n : ℕ) (st : View) (g : Ghost) (h : Hist) (i row : ℕ) (v : Option ℕ) (iv : Inv R n st g h []) (op : slotV st i .id ≢ 0) (inR : row < R)
-  (first : ownFind (vers st) (slotV st i .writes) row ≡ none) (room : st .free ≢ 0) where
+    (first : ownFind (vers st) (slotV st i .writes) row ≡ none) (room : st .free ≢ 0) where
   abbrev pub wrote : Hist
-  wrote = record { last = h .last; view = h .view; own = upd (h .own) i (upd (h .own i) row (some v)) }
+  wrote = record { last = h .last; who = h .who; view = h .view; own = upd (h .own) i (upd (h .own i) row (some (said v (slotV st i .id)))) }
 
-  new-val : (o : Option ℕ) → verOf (version (slotV st i .id) 0 0 (keyedOf o) (keyOf o) 0 0) .val ≡ o
+  new-val : (o : Option ℕ) → verOf (newVersion o (slotV st i .id) 0) .val ≡ said o (slotV st i .id)
   unfolding verOf
   new-val none = refl
   new-val (some k) = refl
@@ -127,19 +124,19 @@ module _ (R n : ℕ) (st : View) (g : Ghost) (h : Hist) (i row : ℕ) (v : Optio
   unfolding verOf
   write-go [] e = absurd (room (rw e at (iv .frees)))
   write-go (c ∷ l) e =
-    let id = slotV st i .id in
-    let z = version id 0 0 (keyedOf v) (keyOf v) 0 0 in
-    let st₁ = withVers st (lockV (st .heads row) id (st .vers)) in
-    let iv₁ = lock-inv R n st g h [] iv (st .heads row) id in
-    let iv₂ = take-inv R n st₁ g h c l iv₁ e z in
-    let st₂ = takeV c z st₁ in
-    let g₂ = taken R n st₁ g h c l iv₁ e in
-    let w : Write = write row (st .heads row) c in
-    let vc : vers st₂ c ≡ verOf z = part-on verOf (st₁ .vers) c z in
-    let none-yet : ownFind (vers st₂) (slotV st i .writes) row ≡ none = (iv₂ .opens i op) .owns row ∙ sym ((iv .opens i op) .owns row) ∙ first in
-    let q = enter-inv R n st₂ g₂ h i w iv₂ op inR none-yet (ap (λ (x : Ver). x .xmin) vc) (ap (λ (x : Ver). x .xmax) vc) in
-    let q₁ = subst (λ (x : Val). Inv R n (putSlot st₂ i (withWrite (slotV st₂ i) w)) g₂ (record { last = h .last; view = h .view; own = upd (h .own) i (upd (h .own i) row (some x)) }) []) (ap (λ (x : Ver). x .val) vc ∙ new-val v) q in
-    (g₂, subst (λ (x : ℕ). Inv R n (putSlot (takeV x z st₁) i (withWrite (slotV st₂ i) (write row (st .heads row) x))) g₂ wrote []) (sym (free-is R n st g h c l iv e)) q₁)
+      let id = slotV st i .id in
+      let z = newVersion v id 0 in
+      let st₁ = withVers st (lockV (st .heads row) id (st .vers)) in
+      let iv₁ = lock-inv R n st g h [] iv (st .heads row) id in
+      let iv₂ = take-inv R n st₁ g h c l iv₁ e z in
+      let st₂ = takeV c z st₁ in
+      let g₂ = taken R n st₁ g h c l iv₁ e in
+      let w : Write = write row (st .heads row) c in
+      let vc : vers st₂ c ≡ verOf z = part-on verOf (st₁ .vers) c z in
+      let none-yet : ownFind (vers st₂) (slotV st i .writes) row ≡ none = (iv₂ .opens i op) .owns row ∙ sym ((iv .opens i op) .owns row) ∙ first in
+      let q = enter-inv R n st₂ g₂ h i w iv₂ op inR none-yet (ap (λ (x : Ver). x .xmin) vc) (ap (λ (x : Ver). x .xmax) vc) in
+      let q₁ = subst (λ (x : Val). Inv R n (putSlot st₂ i (withWrite (slotV st₂ i) w)) g₂ (record { last = h .last; who = h .who; view = h .view; own = upd (h .own) i (upd (h .own i) row (some x)) }) []) (ap (λ (x : Ver). x .val) vc ∙ new-val v) q in
+      (g₂, subst (λ (x : ℕ). Inv R n (putSlot (takeV x z st₁) i (withWrite (slotV st₂ i) (write row (st .heads row) x))) g₂ wrote []) (sym (free-is R n st g h c l iv e)) q₁)
 
   pub write-inv : (g′ : Ghost) × Inv R n (prepareV i (slotV st i .id) row v st) g′ wrote []
   write-inv = write-go (g .fl) refl
