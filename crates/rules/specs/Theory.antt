@@ -17,5 +17,6 @@ pub mod Cells
 pub mod Writes
 pub mod Revalue
 pub mod VacuumView
+pub mod Locks
 pub mod Chains
 pub mod Reading

@@ -10,8 +10,8 @@ use lib.ListN.{getD}
 use borrow.Author.Tests.{eqb-false, ltb-true}
 use Rattle.rules.specs.Theory.View.{View, emptySlot}
 use Rattle.rules.specs.Theory.Effects.{slotV}
-use Rattle.rules.specs.Theory.Counting.{bit, cnt, cnt-same, sum-at, sum-two}
-use Rattle.rules.specs.Theory.Inv.{inb, Ghost, inSlot, Hist, Inv}
+use Rattle.rules.specs.Theory.Counting.{bit, cnt, cnt-same, sum-at, sum-two, cnt-head}
+use Rattle.rules.specs.Theory.Inv.{inb, Ghost, inSlot, Hist, Inv, Spelled, nexts}
 
 inb-bits : (n x : ℕ) (a b : Bool) → eqb x 0 ≡ a → ltb x n ≡ b → (bit (not a && b) ≤ 1) × (bit (not a && b) ≢ 0 → (x ≢ 0) × (x < n))
 unfolding bit
@@ -77,3 +77,29 @@ module _ (R n : ℕ) (st : View) (g : Ghost) (h : Hist) where
       let e = iv .once 0 in
       let z = inb-zero n in
       (λ r. omega (arith, sum-at (cnt 0) (g .rows) r [] refl), λ i. omega (arith, sum-at (inSlot 0) (st .slots) i emptySlot refl), omega arith)
+
+-- what a nonzero pointer spells is in the list
+pub spelled-first : (nx : ℕ → ℕ) (c : ℕ) (l : List ℕ) → Spelled nx c l → c ≢ 0 → cnt c l ≢ 0
+spelled-first nx c [] s nz = absurd (nz s)
+spelled-first nx c (d ∷ l) s nz = λ z. cnt-head c d l z (s .0)
+
+module _ (R n : ℕ) (st : View) (g : Ghost) (h : Hist) where
+  pub head-among : (pend : List ℕ) (r : ℕ) → Inv R n st g h pend → r < R → st .heads r ≢ 0 → cnt (st .heads r) (getD (g .rows) r []) ≢ 0
+  head-among pend r iv lt nz = spelled-first (nexts st) (st .heads r) (getD (g .rows) r []) (iv .chain r lt) nz
+
+  -- a free cell stands in no chain and in no write set
+  pub free-alone : (c : ℕ) → Inv R n st g h [] → cnt c (g .fl) ≢ 0 → (c ≢ 0) × (c < n) × ((r : ℕ) → cnt c (getD (g .rows) r []) ≡ 0) × ((i : ℕ) → inSlot c (slotV st i) ≡ 0)
+  unfolding cnt
+  free-alone c iv nz =
+      let e = iv .once c in
+      let b = inb-le n c in
+      let v = inb-in n c (omega arith) in
+      (v .0, v .1, λ r. omega (arith, sum-at (cnt c) (g .rows) r [] refl), λ i. omega (arith, sum-at (inSlot c) (st .slots) i emptySlot refl))
+
+  -- a cell of a write set
+  pub own-cell : (i c : ℕ) → Inv R n st g h [] → inSlot c (slotV st i) ≢ 0 → (c ≢ 0) × (c < n)
+  unfolding cnt
+  own-cell i c iv a =
+      let b = sum-at (inSlot c) (st .slots) i emptySlot refl in
+      let once = iv .once c in
+      inb-in n c (omega arith)

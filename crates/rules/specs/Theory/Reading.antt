@@ -23,11 +23,11 @@ use Rattle.rules.specs.Chain.{look, Look, nothing, found, lookOf, tooLon
 use Rattle.rules.specs.Read.{sees, own, answerAt, Sight, blocked, sightOf, recorded, ownSight, readRow}
 use Rattle.rules.specs.Abort.{news}
 use Rattle.rules.specs.Theory.Cases.{byBool}
-use Rattle.rules.specs.Theory.View.{View, emptySlot}
+use Rattle.rules.specs.Theory.View.{View}
 use Rattle.rules.specs.Theory.Effects.{slotV}
-use Rattle.rules.specs.Theory.Counting.{cnt, cnt-head, cnt-tail, sum-at}
-use Rattle.rules.specs.Theory.Inv.{pick, Ver, vis, vers, vis-is, verOf, Spelled, ownFind, Entries, Val, Ghost, Hist, Inv, inSlot}
-use Rattle.rules.specs.Theory.Places.{chain-cell, inb-in}
+use Rattle.rules.specs.Theory.Counting.{cnt, cnt-head, cnt-tail}
+use Rattle.rules.specs.Theory.Inv.{pick, Ver, vis, vers, vis-is, verOf, Spelled, ownFind, Entries, Val, Ghost, Hist, Inv}
+use Rattle.rules.specs.Theory.Places.{chain-cell, own-cell}
 use Rattle.rules.specs.Theory.Publish.{versF, nextsF}
 use Rattle.rules.specs.Theory.Chains.{restOf, AllBelow, chain-spelled, all-below}
 
@@ -131,19 +131,12 @@ module _ (z : Sizes) (R n : ℕ) (st : View) (g : Ghost) (h : Hist) (i r : ℕ) 
       (λ y. rw y (byBool (leb (z .reads) (length (slotV st i .recs))) (λ f. rw f (full (leb-true _ _ f))) (λ f. rw f (right c _ ok))))))
       (pick-cases (slotV st i) (vers st) (getD (g .rows) r []))
 
-  own-cell : (c : ℕ) → inSlot c (slotV st i) ≢ 0 → (c ≢ 0) × (c < suc n)
-  unfolding cnt
-  own-cell c a =
-      let b = sum-at (inSlot c) (st .slots) i emptySlot refl in
-      let once = iv .once c in
-      inb-in (suc n) c (omega arith)
-
   own-right : (o : Option Write) → Own (vers st) (slotV st i .writes) r o → Right z st g h i r (ownSight z n (st .vers) (st .heads r) (slotV st i) (slotV st i .recs) r o)
   unfolding ownSight
   own-right none a = walked (sym ((iv .opens i op) .owns r) ∙ a) _
       (look-pick n (z .walk) (slotV st i) (st .vers) (st .heads r) (getD (g .rows) r []) (all-below (suc n) _ (λ c q. chain-cell R (suc n) st g h [] c r iv q .inside)) (iv .chain r inR))
   own-right (some w) a =
-      let v = own-cell (w .new) (a .1) in
+      let v = own-cell R (suc n) st g h i (w .new) iv (a .1) in
       let le : w .new ≤ n = le-of-suc-le-suc (v .1) in
       rw (ne-eqb (w .new) 0 (v .0), le-leb (w .new) n le) (right (w .new) [] (rw (sym ((iv .opens i op) .owns r) ∙ a .0) (answer-val (st .vers) (w .new) (v .0))))
 
