@@ -20,3 +20,9 @@ pub mod VacuumView
 pub mod Locks
 pub mod Chains
 pub mod Reading
+pub mod Guard
+pub mod Same
+pub mod Good
+pub mod BeginCall
+pub mod CommitCall
+pub mod AbortCall

@@ -18,7 +18,7 @@ use Rattle.rules.specs.Theory.Cases.{byEq}
 use Rattle.rules.specs.Theory.View.{upd, upd-other, View, upd-same, emptySlot}
 use Rattle.rules.specs.Theory.Effects.{slotV, publishAllV, publishV, putSlot}
 use Rattle.rules.specs.Theory.Inv.{Ver, ownFind, Ghost, Hist, Inv, Val, Entries, vers, Settled, entries-frame, own-frame}
-use Rattle.rules.specs.Theory.SlotSteps.{open-in, ended, close-inv}
+use Rattle.rules.specs.Theory.SlotSteps.{open-in, ids-differ, ended, close-inv}
 use Rattle.rules.specs.Theory.Publish.{publish-vers, publish-loose, publish-inv}
 
 -- the tests of commit: every write's base is its row's head
@@ -104,22 +104,11 @@ module _ (R n : ℕ) (st : View) (g : Ghost) (h : Hist) (i : ℕ) (iv : Inv R n 
   elsewhere : (j : ℕ) → j ≢ i → slotV (putSlot st i emptySlot) j ≡ slotV st j
   elsewhere j ne = getD-set-other (st .slots) i j emptySlot emptySlot ne
 
-  own-visible : creatorVisible (slotV st i) (slotV st i .id) ≡ true
-  unfolding creatorVisible
-  own-visible = rw (ne-eqb (slotV st i .id) 0 op, eq-eqb (slotV st i .id) (slotV st i .id) refl)
-
-  -- ids differ: what i sees as its own, it does not see as another's
-  ids-differ : (j : ℕ) → j ≢ i → slotV st j .id ≢ slotV st i .id
-  ids-differ j ne q =
-      let a = (iv .opens i op) .snap .hides j ne in
-      let b : creatorVisible (slotV st i) (slotV st i .id) ≡ false = rw q at a in
-      let z : _≡_ {A = ℕ} 0 1 = cc own-visible in omega arith
-
   settles : Settled (putSlot st i emptySlot .clock) (putSlot st i emptySlot .slots) (slotV st i .id)
   settles = record {
     nonzero = op;
     past = past′;
-    shut = λ j. byEq j i (λ q. rw (q, this-slot) (λ z. op (sym z))) (λ q. rw (elsewhere j q) (ids-differ j q));
+    shut = λ j. byEq j i (λ q. rw (q, this-slot) (λ z. op (sym z))) (λ q. rw (elsewhere j q) (ids-differ R n st g h [] i iv op j q));
   }
     where
       past′ : slotV st i .id < putSlot st i emptySlot .clock

@@ -16,7 +16,7 @@ use Rattle.rules.specs.Versions.{at, emptyVersion, withNext, withLock, w
 use Rattle.rules.specs.Slots.{Write, write, Slot}
 use Rattle.rules.specs.Theory.Cases.{byEq, byBool, and-true}
 use Rattle.rules.specs.Theory.SlotLaws.{withWrite}
-use Rattle.rules.specs.Theory.View.{View, emptySlot, upd-same, upd, upd-other}
+use Rattle.rules.specs.Theory.View.{View, emptySlot, upd, upd-same, upd-other}
 use Rattle.rules.specs.Theory.Effects.{slotV, withVers, giveV, giveAllV, publishV, publishAllV, putSlot, unlockV, lockV, unlockOneV, prepareV}
 use Rattle.rules.specs.Theory.Counting.{cnt, cnt-tail, cnt-head, cnt-other}
 use Rattle.rules.specs.Theory.Inv.{vers, All, Ver, all-map, Ghost, Hist, Inv, Entries}
@@ -382,3 +382,12 @@ module _ (R n : ℕ) (st : View) (g : Ghost) (h : Hist) (i row : ℕ) (v : Optio
         (λ y. record { slot = i; taken = rw this-at op; among = rw (this-at, bases-snoc c (slotV st i .writes) w₀) (λ z. cnt-head c b [] (omega arith) y) })
         (λ y. still-based c (k .only c nz cn (rw (made-off c q, mid-off c y) at l))));
   }
+
+-- the held bases are heads: where no head is in a list, no held base is
+pub held-off : (R n : ℕ) (st : View) (g : Ghost) (h : Hist) → Inv R n st g h [] → Locks n st → (l : List ℕ)
+  → ((r : ℕ) → r < R → st .heads r ≢ 0 → cnt (st .heads r) l ≡ 0) → (j : ℕ) → slotV st j .id ≢ 0 → All (λ w. w .base ≢ 0 → cnt (w .base) l ≡ 0) (slotV st j .writes)
+held-off R n st g h iv k l off j oj = go (vers st) (slotV st j .id) (slotV st j .writes) ((iv .opens j oj) .entries) (k .held j oj)
+  where
+    go : (f : ℕ → Ver) (t : ℕ) (ws : List Write) → Entries f R t ws → All (Holds st (slotV st j .id)) ws → All (λ w. w .base ≢ 0 → cnt (w .base) l ≡ 0) ws
+    go f t [] e a = tt
+    go f t (w ∷ ws) e a = (λ nz. let q = a .0 nz .headed in subst (λ (c : ℕ). cnt c l ≡ 0) q (off (w .row) (e .0) (rw q nz)), go f t ws (e .4) (a .1))

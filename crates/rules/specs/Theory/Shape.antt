@@ -26,6 +26,10 @@ module _ {z : Sizes} (ss : List (List ℕ)) (s : ℕ) (t : List ℕ) (ok : Slots
 
 pub record Shaped {z : Sizes} (m : Mem z) : Type 0 where
   pub roomy : Roomy z
+  pub some-rows : 1 ≤ sizeR m
+  pub most-rows : sizeR m ≤ z .rows
+  pub some-cells : 1 ≤ sizeN m
+  pub most-cells : sizeN m ≤ z .cells
   pub metas : metaWords ≤ length (m .meta)
   pub rows : sizeR m ≤ length (m .rows)
   pub cells : sizeN m ≤ length (m .cells)

@@ -270,3 +270,10 @@ module _ (R n : ℕ) (st : View) (g : Ghost) (h : Hist) (i : ℕ) (iv : Inv R n 
         open-beside R st g h begun-hist i (bornSlot st i) (st .clock + 1) (omega arith) lt j q (o .snap .after (st .clock) (omega arith))
         (λ r. ap (λ (f : ℕ → Option Val). f r) (upd-other (h .view) i j (h .last) q)) (λ r. ap (λ (f : ℕ → Option Val). f r) (upd-other (h .own) i j (λ _. none) q)) o);
   }
+
+-- ids differ: what i sees as its own, it does not see as another's
+pub ids-differ : (R n : ℕ) (st : View) (g : Ghost) (h : Hist) (pend : List ℕ) (i : ℕ) → Inv R n st g h pend → slotV st i .id ≢ 0 → (j : ℕ) → j ≢ i → slotV st j .id ≢ slotV st i .id
+unfolding creatorVisible
+ids-differ R n st g h pend i iv op j ne q =
+    let a : creatorVisible (slotV st i) (slotV st i .id) ≡ false = rw q at ((iv .opens i op) .snap .hides j ne) in
+    true≢false (rw (ne-eqb (slotV st i .id) 0 op, eq-eqb (slotV st i .id) (slotV st i .id) refl) at a)
