@@ -26,3 +26,7 @@ pub mod Good
 pub mod BeginCall
 pub mod CommitCall
 pub mod AbortCall
+pub mod WriteCall
+pub mod Recording
+pub mod ReadCall
+pub mod LookupCall

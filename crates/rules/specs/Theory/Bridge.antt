@@ -13,7 +13,7 @@ use borrow.Author.Tests.{eq-eqb, ne-eqb}
 use Rattle.rules.specs.declared.Version.{Version}
 use Rattle.rules.specs.Sizes.{Sizes, READS, WRITES, FREE, CLOCK, ID, LOW}
 use Rattle.rules.specs.Lists.{fold, nonzero}
-use Rattle.rules.specs.Versions.{version, versionAt, linkAt, putVersion, keyedOf, keyOf, withValue, withNext, emptyVersion, withLock}
+use Rattle.rules.specs.Versions.{versionAt, version, linkAt, putVersion, keyedOf, keyOf, withValue, withNext, emptyVersion, withLock}
 use Rattle.rules.specs.Slots.{Slot, slotOf, emptied, Rec, addRecs, write, addWrite, Write}
 use Rattle.rules.specs.Memory.{Mem, withSlot, headAt, free, clock, wordsAt}
 use Rattle.rules.specs.Snapshot.{occupied, snapLow, snapTop}
@@ -96,8 +96,11 @@ module _ {z : Sizes} (m : Mem z) (s id row : ℕ) (v : Option ℕ) (sh : Shaped 
         slots = (set-slots z (m .slots) s (addWrite z w (wordsAt m s)) ∙ ap (set (slotsOf z (m .slots)) s) (slot-write (wordsAt m s) (sh .slots .each s lt) w few ∙ ap (λ (t : Slot). withWrite t w) (sym (get-slots z (m .slots) s lt)))) i;
       }
 
-  pub view-replaced : (c : ℕ) → HasCell (m .cells) c → viewOf (replaced m c v) ≡ withVers (viewOf m) (upd (versionAt (m .cells)) c (withValue (versionAt (m .cells) c) v))
-  view-replaced c h = λ i. record { vers = version-vers (m .cells) c (withValue (versionAt (m .cells) c) v) h i; links = version-links (m .cells) c (withValue (versionAt (m .cells) c) v) h i; heads = headAt m; free = free m; clock = clock m; slots = slotsOf z (m .slots) }
+pub view-replaced : {z : Sizes} (m : Mem z) (c : ℕ) (v : Option ℕ) → HasCell (m .cells) c → viewOf (replaced m c v) ≡ withVers (viewOf m) (upd (versionAt (m .cells)) c (withValue (versionAt (m .cells) c) v))
+view-replaced {z} m c v h =
+    let u = withValue (versionAt (m .cells) c) v in
+    λ i.
+    record { vers = version-vers (m .cells) c u h i; links = version-links (m .cells) c u h i; heads = headAt m; free = free m; clock = clock m; slots = slotsOf z (m .slots) }
 
 -- commit
 pub record WriteIn {z : Sizes} (m : Mem z) (w : Write) : Type 0 where
