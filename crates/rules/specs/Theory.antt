@@ -30,3 +30,5 @@ pub mod WriteCall
 pub mod Recording
 pub mod ReadCall
 pub mod LookupCall
+pub mod VacuumCall
+pub mod CreateCall

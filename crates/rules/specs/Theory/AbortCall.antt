@@ -60,7 +60,7 @@ module _ {z : Sizes} (R N : ℕ) (m : Mem z) (h : Hist) (gd : Good R N m h) (s i
       ∙ ap (λ (st : View). putSlot st s emptySlot) (view-give-all (news ws) loosed (all-cells (m .cells) (loosed .cells) (u .2) (news ws) a) (gd .shaped .metas) ∙ ap (giveAllV (news ws)) e)
       ∙ give-later (news ws) (withVers (viewOf m) (unlockV id ws (versionAt (m .cells)))) s emptySlot
       ∙ sym (ap (λ (t : Slot). giveAllV (news (t .writes)) (putSlot (withVers (viewOf m) (unlockV (t .id) (t .writes) (versionAt (m .cells)))) s emptySlot)) (get-slots z (m .slots) s (o .slot))
-             ∙ ap (λ (k : ℕ). giveAllV (news ws) (putSlot (withVers (viewOf m) (unlockV k ws (versionAt (m .cells)))) s emptySlot)) (slot-id m s id o))
+      ∙ ap (λ (k : ℕ). giveAllV (news ws) (putSlot (withVers (viewOf m) (unlockV k ws (versionAt (m .cells)))) s emptySlot)) (slot-id m s id o))
 
   -- a base that is held stands in a chain, a cell of a write set does not
   abort-locks : (op : slotV (viewOf m) s .id ≢ 0) → Locks (suc N) (abortV s (viewOf m))
@@ -71,30 +71,30 @@ module _ {z : Sizes} (R N : ℕ) (m : Mem z) (h : Hist) (gd : Good R N m h) (s i
       let differ = ids-differ R (suc N) st g h [] s iv op in
       let st₁ = putSlot (withVers st (unlockV (slotV st s .id) (slotV st s .writes) (st .vers))) s emptySlot in
       let in-chain : (j : ℕ) → slotV st j .id ≢ 0 → All (λ w. w .base ≢ 0 → cnt (w .base) (news (slotV st s .writes)) ≡ 0) (slotV st j .writes) =
-        λ j oj. held-off R (suc N) st g h iv (gd .locks) (news (slotV st s .writes)) (λ r lt nz. chain-cell R (suc N) st g h [] (st .heads r) r iv (head-among R (suc N) st g h [] r iv lt nz) .unslot s) j oj in
+      λ j oj. held-off R (suc N) st g h iv (gd .locks) (news (slotV st s .writes)) (λ r lt nz. chain-cell R (suc N) st g h [] (st .heads r) r iv (head-among R (suc N) st g h [] r iv lt nz) .unslot s) j oj in
       locks-give-all (suc N) (news (slotV st s .writes)) st₁
-        (λ j oj. byEq j s
-          (λ q. absurd (oj (rw (q, getD-set-same (st .slots) s emptySlot emptySlot (open-in (st .slots) s op)))))
-          (λ q. let e = getD-set-other (st .slots) s j emptySlot emptySlot q in rw e (in-chain j (rw e at oj))))
-        (locks-drop (suc N) st s (gd .locks) op differ)
+      (λ j oj. byEq j s
+      (λ q. absurd (oj (rw (q, getD-set-same (st .slots) s emptySlot emptySlot (open-in (st .slots) s op)))))
+      (λ q. let e = getD-set-other (st .slots) s j emptySlot emptySlot q in rw e (in-chain j (rw e at oj))))
+      (locks-drop (suc N) st s (gd .locks) op differ)
 
   pub abort-good : Good R N (abortOut m s id .after) (ifDone (abortOut m s id .answer) (histEnd h s) h)
   unfolding abortOut
   abort-good = guardCase (λ (o : Outcome z Answer ℕ). Good R N (o .after) (ifDone (o .answer) (histEnd h s) h)) (refuse m) (slotTests m s id ++ each (abortTests m) ws) _ (λ k x. gd)
       (λ p.
-        let sh = gd .shaped in
-        let q = passed-split (slotTests m s id) (each (abortTests m) ws) p in
-        let o = owner m s id (q .0) in
-        let f = abort-facts m sh ws (q .1) in
-        let e₀ : Same m loosed = record { meta = refl; rows = refl; cells = same-unlock id ws (m .cells); sizer = refl; sizen = refl } in
-        let e = same-then m loosed (fold giveBack (news ws) loosed) e₀ (same-give-all (news ws) loosed) in
-        let op = view-open m s id o in
-        let k = abort-inv R (suc N) (viewOf m) (gd .ghost) h s (gd .inv) op in
-        record {
-          shaped = shaped-close m (fold giveBack (news ws) loosed) s (o .slot) sh e (slots-give-all (news ws) loosed);
-          rows = e .sizer ∙ gd .rows;
-          cells = e .sizen ∙ gd .cells;
-          ghost = k .0;
-          inv = rw (abort-view o (f .0) (f .1)) (k .1);
-          locks = rw (abort-view o (f .0) (f .1)) (abort-locks op);
-        })
+      let sh = gd .shaped in
+      let q = passed-split (slotTests m s id) (each (abortTests m) ws) p in
+      let o = owner m s id (q .0) in
+      let f = abort-facts m sh ws (q .1) in
+      let e₀ : Same m loosed = record { meta = refl; rows = refl; cells = same-unlock id ws (m .cells); sizer = refl; sizen = refl } in
+      let e = same-then m loosed (fold giveBack (news ws) loosed) e₀ (same-give-all (news ws) loosed) in
+      let op = view-open m s id o in
+      let k = abort-inv R (suc N) (viewOf m) (gd .ghost) h s (gd .inv) op in
+      record {
+        shaped = shaped-close m (fold giveBack (news ws) loosed) s (o .slot) sh e (slots-give-all (news ws) loosed);
+        rows = e .sizer ∙ gd .rows;
+        cells = e .sizen ∙ gd .cells;
+        ghost = k .0;
+        inv = rw (abort-view o (f .0) (f .1)) (k .1);
+        locks = rw (abort-view o (f .0) (f .1)) (abort-locks op);
+      })

@@ -85,5 +85,5 @@ module _ {z : Sizes} (R N : ℕ) (m : Mem z) (h : Hist) (gd : Good R N m h) wher
       let ts = test (leb (z .slots) s) noFreeSlot 0 ∷ test (eqb (clock m) lastId) clockSpent 0 ∷ [] in
       guardCase (λ (o : Outcome z Answer ℕ). Good R N (o .after) (ifBegun (o .answer) (histBegin h) h)) (refuse m) (storeTests m ++ ts) _ (λ k x. gd)
       (λ p.
-        let lt : s < z .slots = leb-false _ _ (passed-split (storeTests m) ts p .1 .0) in
-        begun-good s lt (vacant-slot s refl lt))
+      let lt : s < z .slots = leb-false _ _ (passed-split (storeTests m) ts p .1 .0) in
+      begun-good s lt (vacant-slot s refl lt))

@@ -2,17 +2,19 @@
 use mathlib.Core.List.{List, [], _∷_}
 use mathlib.Core.Logic.{_≢_}
 use mathlib.Core.Path.{refl, _≡_, ap, sym, _∙_, subst}
-use Prim.Native.Nat.{ℕ, _<_, zero, suc, _≤_}
+use Prim.Native.Nat.{ℕ, _<_, zero, suc, _≤_, _+_}
 use native.Mathlib.Nat.{le-of-suc-le-suc}
 use native.Mathlib.Omega.{arith}
-use lib.Dec.{eqb, ltb}
-use lib.ListN.{length, take}
-use borrow.Author.Tests.{eq-eqb, ne-eqb, le-ltb, eqb-true, eqb-false}
+use lib.Dec.{eqb}
+use lib.ListN.{length, take, getD}
+use borrow.Author.Tests.{eq-eqb, ne-eqb, le-ltb}
 use Rattle.rules.specs.declared.Version.{Version}
-use Rattle.rules.specs.Chain.{After, ends, goesOn, chain, chained, Chain, broken}
-use Rattle.rules.specs.Theory.Cases.{byBool}
-use Rattle.rules.specs.Theory.Counting.{cnt, cnt-head, cnt-tail}
-use Rattle.rules.specs.Theory.Inv.{Spelled}
+use Rattle.rules.specs.Chain.{After, ends, goesOn, chain, chained, Chain}
+use Rattle.rules.specs.Theory.Cases.{byEq}
+use Rattle.rules.specs.Theory.View.{View}
+use Rattle.rules.specs.Theory.Counting.{cnt, cnt-head, cnt-tail, bit, sum-at}
+use Rattle.rules.specs.Theory.Inv.{Spelled, inb, Ghost, Hist, Inv}
+use Rattle.rules.specs.Theory.Places.{inb-zero, inb-le, chain-cell}
 use Rattle.rules.specs.Theory.Publish.{nextsF}
 
 abbrev pub AllBelow : ℕ → List ℕ → Type 0
@@ -56,19 +58,72 @@ spelled-same f h (c ∷ a) (d ∷ b) s t =
     let r = spelled-same f (f c) a b (s .2) (subst (λ (x : ℕ). Spelled f (f x) b) (sym e) (t .2)) in
     rw (e, r)
 
--- a chain that ends is spelled
-abbrev pub Walked : (ℕ → Version) → ℕ → List ℕ → After → Type 0
-Walked f c l ends = Spelled (nextsF f) c l
-Walked f c l goesOn = Unit {0}
-Walked f c l broken = Unit {0}
+take-whole : (k : ℕ) (l : List ℕ) → length l ≤ k → take k l ≡ l
+take-whole zero [] h = refl
+take-whole zero (c ∷ l) h = absurd (omega arith)
+take-whole (suc k) [] h = refl
+take-whole (suc k) (c ∷ l) h = ap (λ (x : List ℕ). c ∷ x) (take-whole k l (le-of-suc-le-suc h))
 
-walked-on : (f : ℕ → Version) (c : ℕ) (l : List ℕ) (a : After) → c ≢ 0 → Walked f (f c .next .0) l a → Walked f c (c ∷ l) a
-walked-on f c l ends nz w = (refl, nz, w)
-walked-on f c l goesOn nz w = tt
-walked-on f c l broken nz w = tt
+-- ---- a chain is no longer than the number of cells
 
-pub walked : (n : ℕ) (f : ℕ → Version) (k c : ℕ) → Walked f c (chain n f k c .cells) (chain n f k c .after)
-unfolding chain
-walked n f zero c = byBool (eqb c 0) (λ e. rw e (eqb-true c 0 e)) (λ e. rw e tt)
-walked n f (suc k) c = byBool (eqb c 0) (λ e. rw e (eqb-true c 0 e))
-    (λ e. rw e (byBool (ltb n c) (λ q. rw q tt) (λ q. rw q (walked-on f c (chain n f k (f c .next .0) .cells) (chain n f k (f c .next .0) .after) (eqb-false c 0 e) (walked n f k (f c .next .0))))))
+-- f 0 + .. + f (n - 1)
+unfoldable rsum : (ℕ → ℕ) → ℕ → ℕ
+rsum f zero = 0
+rsum f (suc n) = f n + rsum f n
+
+rsum-add : (f g : ℕ → ℕ) (n : ℕ) → rsum (λ x. f x + g x) n ≡ rsum f n + rsum g n
+unfolding rsum
+rsum-add f g zero = omega arith
+rsum-add f g (suc n) = omega (arith, rsum-add f g n)
+
+rsum-le : (f g : ℕ → ℕ) (n : ℕ) → ((x : ℕ) → f x ≤ g x) → rsum f n ≤ rsum g n
+unfolding rsum
+rsum-le f g zero h = omega arith
+rsum-le f g (suc n) h = omega (arith, rsum-le f g n h, h n)
+
+-- one cell is counted once, below its bound
+rsum-out : (c n : ℕ) → n ≤ c → rsum (λ x. bit (eqb x c)) n ≡ 0
+unfolding rsum bit
+rsum-out c zero h = refl
+rsum-out c (suc n) h = rw (ne-eqb n c (omega arith)) (omega (arith, rsum-out c n (omega arith)))
+
+rsum-in : (c n : ℕ) → c < n → rsum (λ x. bit (eqb x c)) n ≡ 1
+unfolding rsum bit
+rsum-in c zero h = absurd (omega arith)
+rsum-in c (suc n) h = byEq n c
+    (λ e. rw (eq-eqb n c e) (omega (arith, rsum-out c n (omega arith))))
+    (λ ne. rw (ne-eqb n c ne) (omega (arith, rsum-in c n (omega arith))))
+
+rsum-nil : (n : ℕ) → rsum (λ x. cnt x []) n ≡ 0
+unfolding rsum cnt
+rsum-nil zero = refl
+rsum-nil (suc n) = omega (arith, rsum-nil n)
+
+-- the length is the sum of the counts
+length-counts : (n : ℕ) (l : List ℕ) → AllBelow n l → length l ≡ rsum (λ x. cnt x l) n
+unfolding cnt
+length-counts n [] b = sym (rsum-nil n)
+length-counts n (c ∷ l) b = omega (arith, length-counts n l (b .1), rsum-in c n (b .0), rsum-add (λ x. bit (eqb x c)) (λ x. cnt x l) n)
+
+inb-sum : (n k : ℕ) → rsum (inb k) (suc n) ≤ n
+unfolding rsum
+inb-sum zero k = omega (arith, inb-zero k)
+inb-sum (suc n) k = omega (arith, inb-sum n k, inb-le k (suc n))
+
+module _ (R N : ℕ) (st : View) (g : Ghost) (h : Hist) (r : ℕ) (iv : Inv R (suc N) st g h []) where
+  pub row-below : AllBelow (suc N) (getD (g .rows) r [])
+  row-below = all-below (suc N) (getD (g .rows) r []) (λ c q. chain-cell R (suc N) st g h [] c r iv q .inside)
+
+  pub chain-short : length (getD (g .rows) r []) ≤ N
+  unfolding cnt
+  chain-short =
+      let l = getD (g .rows) r [] in
+      let a = length-counts (suc N) l row-below in
+      let b = rsum-le (λ x. cnt x l) (inb (suc N)) (suc N) (λ x. omega (arith, iv .once x, sum-at (cnt x) (g .rows) r [] refl)) in
+      omega (arith, inb-sum N (suc N))
+
+  -- so a walk of N versions comes to its end
+  pub chain-ends : r < R → chain N (st .vers) N (st .heads r) ≡ chained (getD (g .rows) r []) ends
+  chain-ends lt =
+      chain-spelled N N (st .vers) (st .heads r) (getD (g .rows) r []) row-below (iv .chain r lt)
+      ∙ rw (take-whole N (getD (g .rows) r []) chain-short, rest-ends N (getD (g .rows) r []) chain-short)

@@ -30,9 +30,10 @@ module _ {z : Sizes} (m : Mem z) (sh : Shaped m) where
   base-facts (w ∷ l) p q =
       let r = base-facts l (p .1 .1 .1 .1) (q .1) in
       let a : w .row < sizeR m = leb-false _ _ (p .0) in
-      let b : w .base ≤ sizeN m = ltb-false _ _ (p .1 .1 .0) in
-      ((eqb-true _ _ (not-false _ (p .1 .0)), r .0),
-       (record { row-in = omega (arith, sh .rows); base-in = omega (arith, sh .cells); new-in = cell-in (sizeN m) (w .new) (m .cells) (sh .cells) (q .0) }, r .1))
+      let b : w .base ≤ sizeN m = ltb-false _ _ (p .1 .1 .0) in (
+        (eqb-true _ _ (not-false _ (p .1 .0)), r .0),
+        (record { row-in = omega (arith, sh .rows); base-in = omega (arith, sh .cells); new-in = cell-in (sizeN m) (w .new) (m .cells) (sh .cells) (q .0) }, r .1),
+      )
 
   commit-facts : (t : Slot) (ws : List Write) → Passed (commitTests m t ws) → Tested (headAt m) ws × AllIn m ws
   unfolding commitTests
@@ -59,7 +60,7 @@ module _ {z : Sizes} (R N : ℕ) (m : Mem z) (h : Hist) (gd : Good R N m h) (s i
       ∙ ap (λ (st : View). putSlot st s emptySlot) (view-publish-all id ws m a)
       ∙ close-later id ws (viewOf m) s emptySlot
       ∙ sym (ap (λ (t : Slot). publishAllV (t .id) (t .writes) (putSlot (viewOf m) s emptySlot)) (get-slots z (m .slots) s (o .slot))
-             ∙ ap (λ (k : ℕ). publishAllV k ws (putSlot (viewOf m) s emptySlot)) (slot-id m s id o))
+      ∙ ap (λ (k : ℕ). publishAllV k ws (putSlot (viewOf m) s emptySlot)) (slot-id m s id o))
 
   committed-good : Passed (slotTests m s id ++ commitTests m (slotAt m s) ws) → Good R N done (histCommit h s)
   committed-good p =

@@ -385,7 +385,7 @@ module _ (R n : ℕ) (st : View) (g : Ghost) (h : Hist) (i row : ℕ) (v : Optio
 
 -- the held bases are heads: where no head is in a list, no held base is
 pub held-off : (R n : ℕ) (st : View) (g : Ghost) (h : Hist) → Inv R n st g h [] → Locks n st → (l : List ℕ)
-  → ((r : ℕ) → r < R → st .heads r ≢ 0 → cnt (st .heads r) l ≡ 0) → (j : ℕ) → slotV st j .id ≢ 0 → All (λ w. w .base ≢ 0 → cnt (w .base) l ≡ 0) (slotV st j .writes)
+    → ((r : ℕ) → r < R → st .heads r ≢ 0 → cnt (st .heads r) l ≡ 0) → (j : ℕ) → slotV st j .id ≢ 0 → All (λ w. w .base ≢ 0 → cnt (w .base) l ≡ 0) (slotV st j .writes)
 held-off R n st g h iv k l off j oj = go (vers st) (slotV st j .id) (slotV st j .writes) ((iv .opens j oj) .entries) (k .held j oj)
   where
     go : (f : ℕ → Ver) (t : ℕ) (ws : List Write) → Entries f R t ws → All (Holds st (slotV st j .id)) ws → All (λ w. w .base ≢ 0 → cnt (w .base) l ≡ 0) ws

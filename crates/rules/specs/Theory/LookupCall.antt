@@ -48,15 +48,15 @@ module _ {z : Sizes} (R N : ℕ) (m : Mem z) (h : Hist) (gd : Good R N m h) (s i
   list-fine r recs rows (sees c new) a =
       let ok : Rightly z (viewOf m) (gd .ghost) s (t .recs ++ (recs ++ new)) = rw append-assoc at a in
       byBool (isKey key (answerAt (versionAt (m .cells)) c))
-        (λ e. rw e (byBool (leb room (length rows)) (λ f. rw f tt) (λ f. rw f ok)))
-        (λ e. rw e ok)
+      (λ e. rw e (byBool (leb room (length rows)) (λ f. rw f tt) (λ f. rw f ok)))
+      (λ e. rw e ok)
 
   row-fine : (r : ℕ) → r < R → (f : Found) → Fine f → Fine (findRow m t key room r f)
   unfolding findRow
   row-fine r lt (stopped k x) a = tt
   row-fine r lt (got recs rows) a =
       list-fine r recs rows _ (subst (λ (k : ℕ). Noted z (viewOf m) (gd .ghost) s (t .recs ++ recs) (readRow z k (versionAt (m .cells)) (headAt m r) t (t .recs ++ recs) r)) (sym (gd .cells))
-        (noted z R N (viewOf m) (gd .ghost) h s r (gd .inv) (view-open m s id o) lt (t .recs ++ recs) a))
+      (noted z R N (viewOf m) (gd .ghost) h s r (gd .inv) (view-open m s id o) lt (t .recs ++ recs) a))
 
   find-fine : (l : List ℕ) → All (λ r. r < R) l → (f : Found) → Fine f → Fine (fold (findRow m t key room) l f)
   unfolding fold
@@ -83,9 +83,9 @@ rows-below R N m h gd ws cands = keep-all _ (λ r. has r cands || has r (ownRows
 pub lookup-all-good : {z : Sizes} (R N : ℕ) (m : Mem z) (h : Hist) → Good R N m h → (s id key room : ℕ) → Good R N (lookupAllOut m s id key room .after) h
 unfolding lookupAllOut
 lookup-all-good {z} R N m h gd s id key room = guardCase (λ (x : Outcome z Answer ℕ). Good R N (x .after) h) (refuse m) (slotTests m s id) _ (λ k x. gd)
-  (λ p. lookup-now R N m h gd s id (owner m s id p) key room [] (from 0 (sizeR m)) (all-rows-below R N m h gd))
+    (λ p. lookup-now R N m h gd s id (owner m s id p) key room [] (from 0 (sizeR m)) (all-rows-below R N m h gd))
 
 pub lookup-good : {z : Sizes} (R N : ℕ) (m : Mem z) (h : Hist) → Good R N m h → (s id key : ℕ) (cands : List ℕ) (room : ℕ) → Good R N (lookupOut m s id key cands room .after) h
 unfolding lookupOut
 lookup-good {z} R N m h gd s id key cands room = guardCase (λ (x : Outcome z Answer ℕ). Good R N (x .after) h) (refuse m) (slotTests m s id ++ each (candidateTests m) cands) _ (λ k x. gd)
-  (λ p. lookup-now R N m h gd s id (owner m s id (passed-split (slotTests m s id) (each (candidateTests m) cands) p .0)) key room _ _ (rows-below R N m h gd (slotAt m s .writes) cands))
+    (λ p. lookup-now R N m h gd s id (owner m s id (passed-split (slotTests m s id) (each (candidateTests m) cands) p .0)) key room _ _ (rows-below R N m h gd (slotAt m s .writes) cands))

@@ -66,12 +66,12 @@ module _ {z : Sizes} (R N : ℕ) (m : Mem z) (h : Hist) (gd : Good R N m h) (s i
   read-now : (row : ℕ) → row < sizeR m → Good R N (readEnd m s (readAt m (slotAt m s) (slotAt m s .recs) row) .after) h
   read-now row lt =
       end-good _ (subst (λ (t : Slot). Noted z st (gd .ghost) s (slotV st s .recs) (readAt m t (t .recs) row)) (get-slots z (m .slots) s (o .slot))
-        (subst (λ (k : ℕ). Noted z st (gd .ghost) s (slotV st s .recs) (readRow z k (versionAt (m .cells)) (headAt m row) (slotV st s) (slotV st s .recs) row)) (sym (gd .cells))
-          (noted z R N st (gd .ghost) h s row (gd .inv) (view-open m s id o) (rw (gd .rows) at lt) (slotV st s .recs) recs-right)))
+      (subst (λ (k : ℕ). Noted z st (gd .ghost) s (slotV st s .recs) (readRow z k (versionAt (m .cells)) (headAt m row) (slotV st s) (slotV st s .recs) row)) (sym (gd .cells))
+      (noted z R N st (gd .ghost) h s row (gd .inv) (view-open m s id o) (rw (gd .rows) at lt) (slotV st s .recs) recs-right)))
 
 pub read-good : {z : Sizes} (R N : ℕ) (m : Mem z) (h : Hist) → Good R N m h → (s id row : ℕ) → Good R N (readOut m s id row .after) h
 unfolding readOut
 read-good {z} R N m h gd s id row = guardCase (λ (o : Outcome z ReadAnswer ℕ). Good R N (o .after) h) (refuseRead m) (slotTests m s id ++ rowTest m row ∷ []) _ (λ k x. gd)
-  (λ p.
+    (λ p.
     let q = passed-split (slotTests m s id) (rowTest m row ∷ []) p in
     read-now R N m h gd s id (owner m s id (q .0)) row (leb-false (sizeR m) row (q .1 .0)))

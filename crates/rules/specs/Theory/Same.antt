@@ -53,8 +53,8 @@ pub same-publish-all : {z : Sizes} (id : ℕ) (ws : List Write) (m : Mem z) → 
 unfolding fold publish
 same-publish-all id [] m = same-refl m
 same-publish-all id (w ∷ l) m = same-then m (publish id w m) _
-  (record { meta = refl; rows = length-set (m .rows) (w .row) (w .new); cells = length-put _ (w .new) _ _ ∙ same-mark id (w .base) (m .cells); sizer = refl; sizen = refl })
-  (same-publish-all id l (publish id w m))
+    (record { meta = refl; rows = length-set (m .rows) (w .row) (w .new); cells = length-put _ (w .new) _ _ ∙ same-mark id (w .base) (m .cells); sizer = refl; sizen = refl })
+    (same-publish-all id l (publish id w m))
 
 pub slots-publish-all : {z : Sizes} (id : ℕ) (ws : List Write) (m : Mem z) → publishAll id ws m .slots ≡ m .slots
 unfolding fold publish
@@ -65,8 +65,8 @@ pub same-give-all : {z : Sizes} (l : List ℕ) (m : Mem z) → Same m (fold give
 unfolding fold giveBack
 same-give-all [] m = same-refl m
 same-give-all (c ∷ l) m = same-then m (giveBack c m) _
-  (record { meta = length-set (m .meta) FREE c; rows = refl; cells = length-put (m .cells) c emptyVersion (free m); sizer = getD-set-other (m .meta) FREE ROWS c 0 (omega arith); sizen = getD-set-other (m .meta) FREE CELLS c 0 (omega arith) })
-  (same-give-all l (giveBack c m))
+    (record { meta = length-set (m .meta) FREE c; rows = refl; cells = length-put (m .cells) c emptyVersion (free m); sizer = getD-set-other (m .meta) FREE ROWS c 0 (omega arith); sizen = getD-set-other (m .meta) FREE CELLS c 0 (omega arith) })
+    (same-give-all l (giveBack c m))
 
 pub slots-give-all : {z : Sizes} (l : List ℕ) (m : Mem z) → fold giveBack l m .slots ≡ m .slots
 unfolding fold giveBack
@@ -87,18 +87,22 @@ same-relink (c ∷ d ∷ l) cs = same-relink (d ∷ l) _ ∙ length-put cs c _ _
 pub same-prepared : {z : Sizes} (m : Mem z) (s id row : ℕ) (v : Option ℕ) → Same m (prepared m s id row v)
 unfolding prepared
 same-prepared m s id row v = record {
-  meta = length-set (m .meta) FREE _; rows = refl; cells = length-put _ (free m) _ 0 ∙ same-lock (m .cells) (headAt m row) id;
-  sizer = getD-set-other (m .meta) FREE ROWS _ 0 (omega arith); sizen = getD-set-other (m .meta) FREE CELLS _ 0 (omega arith) }
+  meta = length-set (m .meta) FREE _;
+  rows = refl;
+  cells = length-put _ (free m) _ 0 ∙ same-lock (m .cells) (headAt m row) id;
+  sizer = getD-set-other (m .meta) FREE ROWS _ 0 (omega arith);
+  sizen = getD-set-other (m .meta) FREE CELLS _ 0 (omega arith);
+}
 
 -- an emptied slot, on any memory of the same sizes and slots
 pub shaped-close : {z : Sizes} (m k : Mem z) (s : ℕ) → s < z .slots → Shaped m → Same m k → k .slots ≡ m .slots → Shaped (withSlot k s (emptied z))
 shaped-close {z} m k s lt sh e q =
     same-shaped m (withSlot k s (emptied z)) (record { meta = e .meta; rows = e .rows; cells = e .cells; sizer = e .sizer; sizen = e .sizen }) sh
-      (slots-ok (k .slots) s (emptied z) (subst (SlotsOk z) (sym q) (sh .slots)) lt (emptied-ok z (sh .roomy)))
+    (slots-ok (k .slots) s (emptied z) (subst (SlotsOk z) (sym q) (sh .slots)) lt (emptied-ok z (sh .roomy)))
 
 -- a write that adds an entry
 pub shaped-prepared : {z : Sizes} (m : Mem z) (s id row : ℕ) (v : Option ℕ) → Shaped m → s < z .slots → getD (wordsAt m s) (WRITES z) 0 < z .writes → Shaped (prepared m s id row v)
 unfolding prepared
 shaped-prepared {z} m s id row v sh lt few =
     same-shaped m (prepared m s id row v) (same-prepared m s id row v) sh
-      (slots-ok (m .slots) s _ (sh .slots) lt (ok-write (wordsAt m s) (sh .slots .each s lt) (write row (headAt m row) (free m)) few))
+    (slots-ok (m .slots) s _ (sh .slots) lt (ok-write (wordsAt m s) (sh .slots .each s lt) (write row (headAt m row) (free m)) few))

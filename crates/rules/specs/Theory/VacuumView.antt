@@ -63,7 +63,7 @@ unfolding cnt
 nodup [] a b = tt
 nodup (c ∷ l) a b = (omega (arith, a c, cnt-same c l), b c (λ z. cnt-head c c l z refl), nodup l (λ x. omega (arith, a x)) (λ x n. b x (λ z. n (cnt-tail x c l z))))
 
-relink-part : {A : Type 0} (F : Version → A) → ((v : Version) (n : ℕ) → F (withNext v n) ≡ F v) → (l : List ℕ) (f : ℕ → Version) → _≡_ {A = ℕ → A} (λ c. F (relinkV l f c)) (λ c. F (f c))
+pub relink-part : {A : Type 0} (F : Version → A) → ((v : Version) (n : ℕ) → F (withNext v n) ≡ F v) → (l : List ℕ) (f : ℕ → Version) → _≡_ {A = ℕ → A} (λ c. F (relinkV l f c)) (λ c. F (f c))
 unfolding relinkV
 relink-part F blind [] f = refl
 relink-part F blind (c ∷ []) f = fun-ext (part-same F f c (withNext (f c) 0) (blind (f c) 0))

@@ -44,8 +44,8 @@ module _ {z : Sizes} (R N : ℕ) (m : Mem z) (h : Hist) (gd : Good R N m h) (s i
 
   -- ---- a new entry
   prepared-good : (o : Owner m s id) → row < sizeR m → own (slotAt m s .writes) row ≡ none → headAt m row ≤ sizeN m
-    → (headAt m row ≢ 0 → lockedByOther (versionAt (m .cells) (headAt m row)) id ≡ false)
-    → getD (wordsAt m s) (WRITES z) 0 < z .writes → free m ≢ 0 → free m ≤ sizeN m → Good R N (prepared m s id row v) (histWrite h s id row v)
+      → (headAt m row ≢ 0 → lockedByOther (versionAt (m .cells) (headAt m row)) id ≡ false)
+      → getD (wordsAt m s) (WRITES z) 0 < z .writes → free m ≢ 0 → free m ≤ sizeN m → Good R N (prepared m s id row v) (histWrite h s id row v)
   prepared-good o inR noOwn hd unlocked few fz fn =
       let sh = gd .shaped in
       let iv = gd .inv in
@@ -75,8 +75,8 @@ module _ {z : Sizes} (R N : ℕ) (m : Mem z) (h : Hist) (gd : Good R N m h) (s i
   unfolding writeNow headTests
   write-new-good o inR noOwn = guardCase Kept (refuse m) _ _ (λ k x. gd)
       (λ p.
-        prepared-good o inR noOwn (ltb-false _ _ (p .0)) (λ nz. rw (ne-eqb (headAt m row) 0 nz) at (p .1 .0)) (leb-false _ _ (p .1 .1 .1 .0)) (eqb-false _ _ (p .1 .1 .1 .1 .0))
-          (ltb-false _ _ (p .1 .1 .1 .1 .1 .0)))
+      prepared-good o inR noOwn (ltb-false _ _ (p .0)) (λ nz. rw (ne-eqb (headAt m row) 0 nz) at (p .1 .0)) (leb-false _ _ (p .1 .1 .1 .0)) (eqb-false _ _ (p .1 .1 .1 .1 .0))
+      (ltb-false _ _ (p .1 .1 .1 .1 .1 .0)))
 
   -- ---- the own entry's value replaced
   replaced-good : (o : Owner m s id) (c : ℕ) → HasCell (m .cells) c → OwnAt (vers (viewOf m)) (slotV (viewOf m) s .writes) row c → Good R N (replaced m c v) (histWrite h s id row v)
@@ -93,7 +93,7 @@ module _ {z : Sizes} (R N : ℕ) (m : Mem z) (h : Hist) (gd : Good R N m h) (s i
         ghost = gd .ghost;
         inv = rw (view-replaced m c v k) (subst (λ (i : ℕ). Inv R (suc N) (withVers st f) (gd .ghost) (histWrite h s i row v) []) sid (revalue-inv R (suc N) st (gd .ghost) h s row v (gd .inv) (view-open m s id o) c a));
         locks = rw (view-replaced m c v k)
-          (locks-same (suc N) st f (part-same (λ (x : Version). x .locked) (st .vers) c (withValue (st .vers c) v) refl) (part-same (λ (x : Version). x .owner .0) (st .vers) c (withValue (st .vers c) v) refl) (gd .locks));
+            (locks-same (suc N) st f (part-same (λ (x : Version). x .locked) (st .vers) c (withValue (st .vers c) v) refl) (part-same (λ (x : Version). x .owner .0) (st .vers) c (withValue (st .vers c) v) refl) (gd .locks));
       }
 
   now-good : Owner m s id → row < sizeR m → (o : Option Write) → own (slotAt m s .writes) row ≡ o → At (vers (viewOf m)) (slotV (viewOf m) s .writes) row o → Kept (writeNow m s id row v o)
@@ -106,8 +106,8 @@ module _ {z : Sizes} (R N : ℕ) (m : Mem z) (h : Hist) (gd : Good R N m h) (s i
   unfolding writeOut
   write-good = guardCase Kept (refuse m) (slotTests m s id ++ rowTest m row ∷ []) _ (λ k x. gd)
       (λ p.
-        let q = passed-split (slotTests m s id) (rowTest m row ∷ []) p in
-        let ow = owner m s id (q .0) in
-        let a = at-is (vers (viewOf m)) R (slotV (viewOf m) s .id) row (slotV (viewOf m) s .writes) ((gd .inv .opens s (view-open m s id ow)) .entries) in
-        now-good ow (leb-false (sizeR m) row (q .1 .0)) (own (slotAt m s .writes) row) refl
-          (subst (λ (t : Slot). At (vers (viewOf m)) (slotV (viewOf m) s .writes) row (own (t .writes) row)) (get-slots z (m .slots) s (ow .slot)) a))
+      let q = passed-split (slotTests m s id) (rowTest m row ∷ []) p in
+      let ow = owner m s id (q .0) in
+      let a = at-is (vers (viewOf m)) R (slotV (viewOf m) s .id) row (slotV (viewOf m) s .writes) ((gd .inv .opens s (view-open m s id ow)) .entries) in
+      now-good ow (leb-false (sizeR m) row (q .1 .0)) (own (slotAt m s .writes) row) refl
+      (subst (λ (t : Slot). At (vers (viewOf m)) (slotV (viewOf m) s .writes) row (own (t .writes) row)) (get-slots z (m .slots) s (ow .slot)) a))
