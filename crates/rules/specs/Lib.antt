@@ -18,4 +18,5 @@ pub mod Vacuum
 pub mod Lookup
 pub mod Run
 pub mod WholeRun
+pub mod History
 pub mod Theory

@@ -14,6 +14,7 @@ use Rattle.rules.specs.Slots.{Write, Slot, emptied}
 use Rattle.rules.specs.Memory.{Mem, sizeN, slotAt, withCells, withSlot, headAt, free, clock}
 use Rattle.rules.specs.Outcome.{each, Outcome, refuse, slotTests}
 use Rattle.rules.specs.Abort.{abortTests, news, unlockBase, giveBack, abortOut}
+use Rattle.rules.specs.History.{ifDone}
 use Rattle.rules.specs.Theory.Cases.{byEq}
 use Rattle.rules.specs.Theory.Shape.{Shaped}
 use Rattle.rules.specs.Theory.View.{View, viewOf, slotsOf, emptySlot, get-slots}
@@ -27,7 +28,7 @@ use Rattle.rules.specs.Theory.Cells.{abortV, abort-inv}
 use Rattle.rules.specs.Theory.Locks.{Locks, held-off, locks-give-all, locks-drop}
 use Rattle.rules.specs.Theory.Guard.{Passed, guardCase, passed-split}
 use Rattle.rules.specs.Theory.Same.{Same, same-unlock, same-then, same-give-all, shaped-close, slots-give-all}
-use Rattle.rules.specs.Theory.Good.{cell-in, Good, Owner, slot-id, ifDone, histEnd, owner, view-open}
+use Rattle.rules.specs.Theory.Good.{cell-in, Good, Owner, slot-id, histEnd, owner, view-open}
 
 abort-facts : {z : Sizes} (m : Mem z) → Shaped m → (ws : List Write) → Passed (each (abortTests m) ws) → BasesIn (m .cells) ws × AllCells (m .cells) (news ws)
 unfolding each

@@ -17,6 +17,7 @@ use Rattle.rules.specs.Memory.{Mem, wordsAt, slotAt, clock}
 use Rattle.rules.specs.Snapshot.{vacant}
 use Rattle.rules.specs.Outcome.{test, Outcome, refuse, storeTests}
 use Rattle.rules.specs.Begin.{begun, beginWords, beginOut}
+use Rattle.rules.specs.History.{ifBegun}
 use Rattle.rules.specs.Theory.Cases.{byBool}
 use Rattle.rules.specs.Theory.Shape.{slots-ok}
 use Rattle.rules.specs.Theory.View.{slotsOf, viewOf, get-slots}
@@ -27,7 +28,7 @@ use Rattle.rules.specs.Theory.SlotSteps.{begin-inv, bornSlot}
 use Rattle.rules.specs.Theory.Locks.{locks-put}
 use Rattle.rules.specs.Theory.Guard.{guardCase, passed-split}
 use Rattle.rules.specs.Theory.Same.{Same, same-shaped}
-use Rattle.rules.specs.Theory.Good.{Good, histBegin, ifBegun}
+use Rattle.rules.specs.Theory.Good.{Good, histBegin}
 
 vacant-empty : (l : List (List ℕ)) → vacant l < length l → getD (getD l (vacant l) []) ID 0 ≡ 0
 unfolding vacant

@@ -11,6 +11,7 @@ use Rattle.rules.specs.Slots.{Write, Slot, emptied}
 use Rattle.rules.specs.Memory.{Mem, headAt, sizeR, sizeN, slotAt, withSlot}
 use Rattle.rules.specs.Outcome.{each, slotTests, Outcome, refuse}
 use Rattle.rules.specs.Commit.{baseTests, newTests, commitTests, recordTests, publishAll, commitOut}
+use Rattle.rules.specs.History.{ifDone}
 use Rattle.rules.specs.Theory.Shape.{Shaped}
 use Rattle.rules.specs.Theory.View.{View, viewOf, emptySlot, get-slots}
 use Rattle.rules.specs.Theory.Effects.{putSlot, publishAllV, publishV, slotV}
@@ -21,7 +22,7 @@ use Rattle.rules.specs.Theory.CommitView.{Tested, commitV, commit-inv}
 use Rattle.rules.specs.Theory.Locks.{locks-commit}
 use Rattle.rules.specs.Theory.Guard.{Passed, passed-split, guardCase}
 use Rattle.rules.specs.Theory.Same.{same-publish-all, shaped-close, slots-publish-all}
-use Rattle.rules.specs.Theory.Good.{cell-in, Good, Owner, slot-id, histCommit, owner, view-open, ifDone}
+use Rattle.rules.specs.Theory.Good.{cell-in, Good, Owner, slot-id, histCommit, owner, view-open}
 
 module _ {z : Sizes} (m : Mem z) (sh : Shaped m) where
   base-facts : (ws : List Write) → Passed (each (baseTests m) ws) → Passed (each (newTests m) ws) → Tested (headAt m) ws × AllIn m ws

@@ -14,11 +14,12 @@ use Rattle.rules.specs.Versions.{at}
 use Rattle.rules.specs.Slots.{Write}
 use Rattle.rules.specs.Visible.{creatorVisible}
 use Rattle.rules.specs.Abort.{news}
+use Rattle.rules.specs.History.{Val}
 use Rattle.rules.specs.Theory.Cases.{byEq}
 use Rattle.rules.specs.Theory.View.{upd, upd-other, View, upd-same, emptySlot}
 use Rattle.rules.specs.Theory.Effects.{slotV, publishAllV, publishV, putSlot}
-use Rattle.rules.specs.Theory.Inv.{Ver, ownFind, Ghost, Hist, Inv, Val, Entries, vers, Settled, entries-frame, own-frame}
-use Rattle.rules.specs.Theory.SlotSteps.{open-in, ids-differ, ended, close-inv}
+use Rattle.rules.specs.Theory.Inv.{Ver, ownFind, Ghost, Hist, Inv, Entries, vers, Settled, entries-frame, own-frame}
+use Rattle.rules.specs.Theory.SlotSteps.{open-in, ids-differ, ended-hist, close-inv}
 use Rattle.rules.specs.Theory.Publish.{publish-vers, publish-loose, publish-inv}
 
 -- the tests of commit: every write's base is its row's head
@@ -94,8 +95,8 @@ commitV i st = publishAllV (slotV st i .id) (slotV st i .writes) (putSlot st i e
 
 -- COMMIT, the whole call: the log's last commits become the transaction's own writes over those that stood
 module _ (R n : ℕ) (st : View) (g : Ghost) (h : Hist) (i : ℕ) (iv : Inv R n st g h []) (op : slotV st i .id ≢ 0) (ts : Tested (st .heads) (slotV st i .writes)) where
-  abbrev pub committed : Hist
-  committed = record { last = λ r. orElse (h .own i r) (h .last r); who = upd (h .who) i 0; view = h .view; own = h .own }
+  abbrev pub committed-hist : Hist
+  committed-hist = record { last = λ r. orElse (h .own i r) (h .last r); who = upd (h .who) i 0; view = h .view; own = h .own }
 
   -- the closed slot's id is settled, and hidden from all that are open
   this-slot : slotV (putSlot st i emptySlot) i ≡ emptySlot
@@ -117,6 +118,6 @@ module _ (R n : ℕ) (st : View) (g : Ghost) (h : Hist) (i : ℕ) (iv : Inv R n 
   hidden : (j : ℕ) → slotV (putSlot st i emptySlot) j .id ≢ 0 → creatorVisible (slotV (putSlot st i emptySlot) j) (slotV st i .id) ≡ false
   hidden j oj = byEq j i (λ q. absurd (oj (rw (q, this-slot)))) (λ q. rw (elsewhere j q) ((iv .opens j (rw (elsewhere j q) at oj)) .snap .hides i (λ e. q (sym e))))
 
-  pub commit-inv : (g′ : Ghost) × Inv R n (commitV i st) g′ committed []
-  commit-inv = publish-all R n (slotV st i .id) (slotV st i .writes) (putSlot st i emptySlot) g (ended R n st g h i iv op) (close-inv R n st g h i iv op) ((iv .opens i op) .entries) ts settles hidden (committed .last)
+  pub commit-inv : (g′ : Ghost) × Inv R n (commitV i st) g′ committed-hist []
+  commit-inv = publish-all R n (slotV st i .id) (slotV st i .writes) (putSlot st i emptySlot) g (ended-hist R n st g h i iv op) (close-inv R n st g h i iv op) ((iv .opens i op) .entries) ts settles hidden (committed-hist .last)
       (λ r. rw ((iv .opens i op) .owns r))

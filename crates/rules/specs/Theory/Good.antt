@@ -9,19 +9,18 @@ use native.Mathlib.Omega.{arith}
 use lib.Dec.{eqb, leb}
 use lib.ListN.{getD, length}
 use borrow.Author.Tests.{leb-false, eqb-false, eqb-true, not-false, not-true, leb-true}
-use Rattle.rules.specs.declared.Answer.{Answer}
-use Rattle.rules.specs.declared.Answer.the-variants.{Done, Begun, Wrote, Vacuumed, Listed}
 use Rattle.rules.specs.Sizes.{Sizes, ID}
 use Rattle.rules.specs.Lists.{orElse, nonzero}
 use Rattle.rules.specs.Slots.{slotOf, Slot}
 use Rattle.rules.specs.Memory.{Mem, sizeR, sizeN, wordsAt, slotAt}
 use Rattle.rules.specs.Outcome.{slotTests, storeTests, isCell}
+use Rattle.rules.specs.History.{said}
 use Rattle.rules.specs.Theory.Cases.{or-false, and-true}
 use Rattle.rules.specs.Theory.CellLaws.{HasCell}
 use Rattle.rules.specs.Theory.Shape.{Shaped}
 use Rattle.rules.specs.Theory.View.{viewOf, upd, get-slots}
 use Rattle.rules.specs.Theory.Effects.{slotV}
-use Rattle.rules.specs.Theory.Inv.{Hist, Ghost, Inv, said}
+use Rattle.rules.specs.Theory.Inv.{Hist, Ghost, Inv}
 use Rattle.rules.specs.Theory.Locks.{Locks}
 use Rattle.rules.specs.Theory.Guard.{Passed}
 
@@ -46,32 +45,6 @@ histEnd h s = record { last = h .last; who = upd (h .who) s 0; view = h .view; o
 
 abbrev pub histCommit : Hist → ℕ → Hist
 histCommit h s = record { last = λ r. orElse (h .own s r) (h .last r); who = upd (h .who) s 0; view = h .view; own = h .own }
-
--- an answer tells which call was accepted
-module _ {A : Type 0} where
-  abbrev pub ifDone : Answer → A → A → A
-  ifDone Done a b = a
-  ifDone (Begun s i) a b = b
-  ifDone (Wrote c) a b = b
-  ifDone (Vacuumed n v) a b = b
-  ifDone (Listed n) a b = b
-  ifDone (Answer.Refused n x) a b = b
-
-  abbrev pub ifBegun : Answer → (ℕ → ℕ → A) → A → A
-  ifBegun (Begun s i) f b = f s (i .0)
-  ifBegun Done f b = b
-  ifBegun (Wrote c) f b = b
-  ifBegun (Vacuumed n v) f b = b
-  ifBegun (Listed n) f b = b
-  ifBegun (Answer.Refused n x) f b = b
-
-  abbrev pub ifWrote : Answer → A → A → A
-  ifWrote (Wrote c) a b = a
-  ifWrote Done a b = b
-  ifWrote (Begun s i) a b = b
-  ifWrote (Vacuumed n v) a b = b
-  ifWrote (Listed n) a b = b
-  ifWrote (Answer.Refused n x) a b = b
 
 -- ---- the caller of a slot
 

@@ -2,7 +2,7 @@
 use mathlib.Core.Bool.{cond, Bool, _&&_, not, true, false}
 use mathlib.Core.List.{List, [], _∷_}
 use mathlib.Core.Logic.{_≢_}
-use mathlib.Core.Option.{Option, some, none}
+use mathlib.Core.Option.{some, none, Option}
 use mathlib.Core.Path.{_≡_, refl, subst, sym, ap, _∙_}
 use Prim.Native.Nat.{ℕ, _+_, _<_, _≤_}
 use lib.Dec.{eqb, ltb}
@@ -12,17 +12,10 @@ use Rattle.rules.specs.Lists.{nonzero, has, least, greatest}
 use Rattle.rules.specs.Slots.{Slot, Write, Rec}
 use Rattle.rules.specs.Visible.{creatorVisible, visible}
 use Rattle.rules.specs.Abort.{news}
+use Rattle.rules.specs.History.{Val, said}
 use Rattle.rules.specs.Theory.View.{View, emptySlot}
 use Rattle.rules.specs.Theory.Effects.{slotV}
 use Rattle.rules.specs.Theory.Counting.{cnt, cnt-head, cnt-tail, bit, sum}
-
--- what a version says: a value, which is a key or none, and who wrote it
-pub record Val : Type 0 where
-  pub value : Option ℕ
-  pub creator : ℕ
-
-abbrev pub said : Option ℕ → ℕ → Val
-said v x = record { value = v; creator = x }
 
 -- what a reader looks at
 pub record Ver : Type 0 where

@@ -14,11 +14,12 @@ use Rattle.rules.specs.Lists.{nonzero}
 use Rattle.rules.specs.Versions.{withNext, withLock, withXmax, at}
 use Rattle.rules.specs.Slots.{Slot, Write, Rec}
 use Rattle.rules.specs.Visible.{creatorVisible}
+use Rattle.rules.specs.History.{Val}
 use Rattle.rules.specs.Theory.Cases.{byEq, byBool}
 use Rattle.rules.specs.Theory.View.{upd, upd-other, upd-same, View}
 use Rattle.rules.specs.Theory.Effects.{markV, slotV, publishV}
 use Rattle.rules.specs.Theory.Counting.{cnt, cnt-other, cnt-tail, cnt-same, cnt-head, sum-set}
-use Rattle.rules.specs.Theory.Inv.{vers, Ver, verOf, nexts, vis, pick, pick-frame, Settled, Val, Top, Tail, Single, same-in, single-frame, Ghost, inSlot, Hist, Inv, Spelled, spelled-frame, top-frame, Recorded, places, inb, own-frame, entries-frame, all-map}
+use Rattle.rules.specs.Theory.Inv.{vers, Ver, verOf, nexts, vis, pick, pick-frame, Settled, Top, Tail, Single, same-in, single-frame, Ghost, inSlot, Hist, Inv, Spelled, spelled-frame, top-frame, Recorded, places, inb, own-frame, entries-frame, all-map}
 use Rattle.rules.specs.Theory.Places.{pend-alone, zero-nowhere, chain-cell, Alone}
 
 abbrev pub versF : (ℕ → Version) → ℕ → Ver
@@ -161,8 +162,8 @@ module _ (R n : ℕ) (st : View) (g : Ghost) (h : Hist) (w : Write) (t : ℕ) (p
     abbrev pub grown : Ghost
     grown = record { rows = set (g .rows) (w .row) (w .new ∷ getD (g .rows) (w .row) []); fl = g .fl }
 
-    abbrev pub logged : Hist
-    logged = record { last = upd (h .last) (w .row) (some (vers st (w .new) .val)); who = h .who; view = h .view; own = h .own }
+    abbrev pub logged-hist : Hist
+    logged-hist = record { last = upd (h .last) (w .row) (some (vers st (w .new) .val)); who = h .who; view = h .view; own = h .own }
 
     module _ (m′ : ℕ → Version) (p : Published (st .vers) m′ t (w .base) (w .new)) (k : BaseAt n st g w pend) (a : Alone n st g (w .new)) (inG : w .row < length (g .rows)) where
       abbrev after : View
@@ -178,7 +179,7 @@ module _ (R n : ℕ) (st : View) (g : Ghost) (h : Hist) (w : Write) (t : ℕ) (p
           (λ q. rw (upd-other (st .heads) (w .row) r (w .new) q, getD-set-other (g .rows) (w .row) r (w .new ∷ getD (g .rows) (w .row) []) [] q)
           (spelled-frame (nexts st) (nextsF m′) (w .new) _ _ (p .nexted) (a .unrow r) (iv .chain r lt)))
 
-      topped : (r : ℕ) → Top (versF m′) (st .clock) (st .slots) (getD (grown .rows) r []) (logged .last r)
+      topped : (r : ℕ) → Top (versF m′) (st .clock) (st .slots) (getD (grown .rows) r []) (logged-hist .last r)
       topped r = byEq r (w .row)
           (λ q. rw (q, getD-set-same (g .rows) (w .row) (w .new ∷ getD (g .rows) (w .row) []) [] inG, upd-same (h .last) (w .row) (some (vers st (w .new) .val)), new-ver)
           (live, rw young done, refl, tail-publish (vers st) (versF m′) t (w .base) (p .others) (p .marked) (st .clock) (st .slots) done _ (h .last (w .row)) (k .under) (iv .tops (w .row))))
@@ -218,7 +219,7 @@ module _ (R n : ℕ) (st : View) (g : Ghost) (h : Hist) (w : Write) (t : ℕ) (p
       unfolding cnt
       counted x = omega (arith, iv .once x, sum-set (cnt x) (g .rows) (w .row) (w .new ∷ getD (g .rows) (w .row) []) [] inG)
 
-      published-inv : Inv R n after grown logged pend
+      published-inv : Inv R n after grown logged-hist pend
       published-inv = record {
         once = counted;
         ticking = iv .ticking;
@@ -240,7 +241,7 @@ module _ (R n : ℕ) (st : View) (g : Ghost) (h : Hist) (w : Write) (t : ℕ) (p
         };
       }
 
-    pub publish-inv : Inv R n (publishV t w st) grown logged pend
+    pub publish-inv : Inv R n (publishV t w st) grown logged-hist pend
     publish-inv =
         let a = pend-alone R n st g h (w .new) pend iv .0 in
         let k = base-at inR (getD (g .rows) (w .row) []) refl hb in

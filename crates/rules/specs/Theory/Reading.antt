@@ -10,8 +10,6 @@ use native.Mathlib.Omega.{arith}
 use lib.Dec.{eqb, leb}
 use lib.ListN.{length, take, getD}
 use borrow.Author.Tests.{eqb-true, ne-eqb, leb-true, le-leb}
-use Rattle.rules.specs.declared.ReadAnswer.{ReadAnswer}
-use Rattle.rules.specs.declared.ReadAnswer.the-variants.{Empty, Key, None}
 use Rattle.rules.specs.declared.Version.{Version}
 use Rattle.rules.specs.Sizes.{Sizes}
 use Rattle.rules.specs.Numbers.{chainTooLong, readSetFull}
@@ -22,11 +20,12 @@ use Rattle.rules.specs.Visible.{visible}
 use Rattle.rules.specs.Chain.{look, Look, nothing, found, lookOf, tooLong}
 use Rattle.rules.specs.Read.{sees, own, answerAt, Sight, blocked, sightOf, recorded, ownSight, readRow}
 use Rattle.rules.specs.Abort.{news}
+use Rattle.rules.specs.History.{answerOf}
 use Rattle.rules.specs.Theory.Cases.{byBool}
 use Rattle.rules.specs.Theory.View.{View}
 use Rattle.rules.specs.Theory.Effects.{slotV}
 use Rattle.rules.specs.Theory.Counting.{cnt, cnt-head, cnt-tail}
-use Rattle.rules.specs.Theory.Inv.{pick, Ver, vis, vers, vis-is, verOf, Spelled, ownFind, Entries, Val, Ghost, Hist, Inv}
+use Rattle.rules.specs.Theory.Inv.{pick, Ver, vis, vers, vis-is, verOf, Spelled, ownFind, Entries, Ghost, Hist, Inv}
 use Rattle.rules.specs.Theory.Places.{chain-cell, own-cell}
 use Rattle.rules.specs.Theory.Publish.{versF, nextsF}
 use Rattle.rules.specs.Theory.Chains.{restOf, AllBelow, chain-spelled, all-below}
@@ -94,22 +93,12 @@ module _ (f : ℕ → Ver) (r : ℕ) where
 
 -- ---- what a read may answer
 
--- a value as an answer: "a version without a key, or a key"
-abbrev pub valueAnswer : Option ℕ → ReadAnswer
-valueAnswer none = Empty
-valueAnswer (some k) = Key k
-
--- what history says as an answer: no version, or the value said
-abbrev pub answerV : Option Val → ReadAnswer
-answerV none = None
-answerV (some x) = valueAnswer (x .value)
-
-answer-val : (f : ℕ → Version) (c : ℕ) → c ≢ 0 → answerAt f c ≡ answerV (some (verOf (f c) .val))
+answer-val : (f : ℕ → Version) (c : ℕ) → c ≢ 0 → answerAt f c ≡ answerOf (some (verOf (f c) .val))
 unfolding answerAt verOf
 answer-val f c nz = byBool (nonzero (f c .keyed)) (λ e. rw (ne-eqb c 0 nz, e)) (λ e. rw (ne-eqb c 0 nz, e))
 
 pub data Right (z : Sizes) (st : View) (g : Ghost) (h : Hist) (i r : ℕ) : Sight → Type 0 where
-  right : (c : ℕ) (l : List Rec) → answerAt (st .vers) c ≡ answerV (orElse (h .own i r) (h .view i r)) → Right z st g h i r (sees c l)
+  right : (c : ℕ) (l : List Rec) → answerAt (st .vers) c ≡ answerOf (orElse (h .own i r) (h .view i r)) → Right z st g h i r (sees c l)
   long : Beyond (z .walk) (slotV st i) (vers st) (getD (g .rows) r []) → Right z st g h i r (blocked chainTooLong r)
   full : (z .reads) ≤ length (slotV st i .recs) → Right z st g h i r (blocked readSetFull r)
 
@@ -126,7 +115,7 @@ module _ (z : Sizes) (R n : ℕ) (st : View) (g : Ghost) (h : Hist) (i r : ℕ) 
       let c = b .0 in
       let s = b .2 in
       let nz = chain-cell R (suc n) st g h [] c r iv (s .among) .real in
-      let ok : answerAt (st .vers) c ≡ answerV (orElse (h .own i r) (h .view i r)) = rw (e, sym ((iv .opens i op) .reads r) ∙ s .shows) (answer-val (st .vers) c nz) in
+      let ok : answerAt (st .vers) c ≡ answerOf (orElse (h .own i r) (h .view i r)) = rw (e, sym ((iv .opens i op) .reads r) ∙ s .shows) (answer-val (st .vers) c nz) in
       rw (q, b .1) (byBool (recorded c (slotV st i .recs)) (λ y. rw y (right c [] ok))
       (λ y. rw y (byBool (leb (z .reads) (length (slotV st i .recs))) (λ f. rw f (full (leb-true _ _ f))) (λ f. rw f (right c _ ok))))))
       (pick-cases (slotV st i) (vers st) (getD (g .rows) r []))

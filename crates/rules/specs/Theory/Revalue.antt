@@ -15,11 +15,12 @@ use Rattle.rules.specs.Versions.{at, withValue}
 use Rattle.rules.specs.Slots.{Write}
 use Rattle.rules.specs.Read.{own}
 use Rattle.rules.specs.Abort.{news}
+use Rattle.rules.specs.History.{said}
 use Rattle.rules.specs.Theory.Cases.{byBool, byEq}
 use Rattle.rules.specs.Theory.View.{View, upd, emptySlot, upd-same, upd-other}
 use Rattle.rules.specs.Theory.Effects.{slotV, withVers}
 use Rattle.rules.specs.Theory.Counting.{cnt, cnt-head, cnt-same, cnt-tail, cnt-other, sum-at, sum-two}
-use Rattle.rules.specs.Theory.Inv.{Ver, said, Entries, ownFind, own-frame, Ghost, Hist, Inv, vers, inSlot, inb, nexts, spelled-frame, top-frame, single-frame, pick-frame, all-map, recorded-frame, verOf}
+use Rattle.rules.specs.Theory.Inv.{Ver, Entries, ownFind, own-frame, Ghost, Hist, Inv, vers, inSlot, inb, nexts, spelled-frame, top-frame, single-frame, pick-frame, all-map, recorded-frame, verOf}
 use Rattle.rules.specs.Theory.Places.{inb-le, inb-in}
 use Rattle.rules.specs.Theory.Publish.{versF, nextsF, part-off, part-on, part-same, ofNext}
 use Rattle.rules.specs.Theory.CommitView.{no-entry}
@@ -86,8 +87,8 @@ entries-vals f f′ R t [] a b en = tt
 entries-vals f f′ R t (w ∷ l) a b en = (en .0, a (w .new) ∙ en .1, b (w .new) ∙ en .2, none-vals f f′ l (w .row) (en .3), entries-vals f f′ R t l a b (en .4))
 
 module _ (R n : ℕ) (st : View) (g : Ghost) (h : Hist) (i r : ℕ) (v : Option ℕ) (iv : Inv R n st g h []) (op : slotV st i .id ≢ 0) where
-  abbrev pub rewrote : Hist
-  rewrote = record { last = h .last; who = h .who; view = h .view; own = upd (h .own) i (upd (h .own i) r (some (said v (slotV st i .id)))) }
+  abbrev pub rewrote-hist : Hist
+  rewrote-hist = record { last = h .last; who = h .who; view = h .view; own = upd (h .own) i (upd (h .own i) r (some (said v (slotV st i .id)))) }
 
   module _ (c : ℕ) (o : OwnAt (vers st) (slotV st i .writes) r c) where
     -- c stands in this write set once, and nowhere else
@@ -126,12 +127,12 @@ module _ (R n : ℕ) (st : View) (g : Ghost) (h : Hist) (i r : ℕ) (v : Option 
           (λ q. rw (upd-other (h .own i) r r′ (some (said v (slotV st i .id))) q) (o .others (versF m′) vs (k .single) r′ q ∙ (iv .opens i op) .owns r′))
 
       -- a slot's write set afterwards
-      owned-all : (j : ℕ) → slotV st j .id ≢ 0 → (r′ : ℕ) → ownFind (versF m′) (slotV st j .writes) r′ ≡ rewrote .own j r′
+      owned-all : (j : ℕ) → slotV st j .id ≢ 0 → (r′ : ℕ) → ownFind (versF m′) (slotV st j .writes) r′ ≡ rewrote-hist .own j r′
       owned-all j oj r′ = byEq j i
-          (λ q. subst (λ (x : ℕ). ownFind (versF m′) (slotV st x .writes) r′ ≡ rewrote .own x r′) (sym q) (rw (upd-same (h .own) i _) (owned r′)))
+          (λ q. subst (λ (x : ℕ). ownFind (versF m′) (slotV st x .writes) r′ ≡ rewrote-hist .own x r′) (sym q) (rw (upd-same (h .own) i _) (owned r′)))
           (λ q. rw (upd-other (h .own) i j _ q) (own-frame (vers st) (versF m′) c vs (slotV st j .writes) r′ (k .unslot j (λ e. q (sym e))) ∙ (iv .opens j oj) .owns r′))
 
-      revalued : Inv R n (withVers st m′) g rewrote []
+      revalued : Inv R n (withVers st m′) g rewrote-hist []
       revalued = record {
         once = iv .once;
         ticking = iv .ticking;
@@ -153,7 +154,7 @@ module _ (R n : ℕ) (st : View) (g : Ghost) (h : Hist) (i r : ℕ) (v : Option 
         };
       }
 
-    pub revalue-inv : Inv R n (withVers st (upd (st .vers) c (withValue (st .vers c) v))) g rewrote []
+    pub revalue-inv : Inv R n (withVers st (upd (st .vers) c (withValue (st .vers c) v))) g rewrote-hist []
     unfolding verOf
     revalue-inv = revalued held _ (part-off verOf (st .vers) c (withValue (st .vers c) v)) (part-on verOf (st .vers) c (withValue (st .vers c) v) ∙ val-is v) (part-same ofNext (st .vers) c (withValue (st .vers c) v) refl)
       where

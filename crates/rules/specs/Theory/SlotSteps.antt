@@ -16,12 +16,13 @@ use Rattle.rules.specs.Slots.{Slot}
 use Rattle.rules.specs.Visible.{creatorVisible}
 use Rattle.rules.specs.Snapshot.{snapLow, snapTop}
 use Rattle.rules.specs.Abort.{news}
+use Rattle.rules.specs.History.{Val}
 use Rattle.rules.specs.Theory.Cases.{byEq, byBool, or-true, and-false}
 use Rattle.rules.specs.Theory.SlotLaws.{newSlot}
 use Rattle.rules.specs.Theory.View.{View, emptySlot, upd, upd-same, upd-other}
 use Rattle.rules.specs.Theory.Effects.{bornV, slotV, putSlot, idsV, beginV}
 use Rattle.rules.specs.Theory.Counting.{cnt, sum-set, cnt-tail}
-use Rattle.rules.specs.Theory.Inv.{Top, Settled, Ver, Val, Snap, Ghost, Hist, vers, Open, Inv, places, inb, inSlot, pick, vis, Tail, Single, Taken, ownFind}
+use Rattle.rules.specs.Theory.Inv.{Top, Settled, Ver, Snap, Ghost, Hist, vers, Open, Inv, places, inb, inSlot, pick, vis, Tail, Single, Taken, ownFind}
 
 pub cv-zero : (s : Slot) → creatorVisible s 0 ≡ false
 unfolding creatorVisible
@@ -82,8 +83,8 @@ module _ (R : ℕ) (st : View) (g : Ghost) (h h′ : Hist) (i : ℕ) (s : Slot) 
 
 -- ---- close: the slot's cells are loose
 module _ (R n : ℕ) (st : View) (g : Ghost) (h : Hist) (i : ℕ) (iv : Inv R n st g h []) (op : slotV st i .id ≢ 0) where
-  abbrev pub ended : Hist
-  ended = record { last = h .last; who = upd (h .who) i 0; view = h .view; own = h .own }
+  abbrev pub ended-hist : Hist
+  ended-hist = record { last = h .last; who = upd (h .who) i 0; view = h .view; own = h .own }
 
   closed-slot : slotV (putSlot st i emptySlot) i ≡ emptySlot
   closed-slot = getD-set-same (st .slots) i emptySlot emptySlot (open-in (st .slots) i op)
@@ -95,7 +96,7 @@ module _ (R n : ℕ) (st : View) (g : Ghost) (h : Hist) (i : ℕ) (iv : Inv R n 
   unfolding cnt
   close-counts x = omega (arith, iv .once x, sum-set (inSlot x) (st .slots) i emptySlot emptySlot (open-in (st .slots) i op))
 
-  pub close-inv : Inv R n (putSlot st i emptySlot) g ended (news (slotV st i .writes))
+  pub close-inv : Inv R n (putSlot st i emptySlot) g ended-hist (news (slotV st i .writes))
   close-inv =
       let lt = open-in (st .slots) i op in
       record {
@@ -108,7 +109,7 @@ module _ (R n : ℕ) (st : View) (g : Ghost) (h : Hist) (i : ℕ) (iv : Inv R n 
         known = λ j. byEq j i (λ q. rw (q, closed-slot, upd-same (h .who) i 0)) (λ q. rw (other-slot j q, upd-other (h .who) i j 0 q) (iv .known j));
         closed = λ j z. byEq j i (λ q. rw (q, closed-slot)) (λ q. rw (other-slot j q) (iv .closed j (rw (other-slot j q) at z)));
         opens = λ j oj. byEq j i (λ q. absurd (oj (rw (q, closed-slot)))) (λ q.
-            open-beside R st g h ended i emptySlot (st .clock) (omega arith) lt j q (cv-zero _) (λ r. refl) (λ r. refl) (iv .opens j (rw (other-slot j q) at oj)));
+            open-beside R st g h ended-hist i emptySlot (st .clock) (omega arith) lt j q (cv-zero _) (λ r. refl) (λ r. refl) (iv .opens j (rw (other-slot j q) at oj)));
       }
 
 -- ---- begin

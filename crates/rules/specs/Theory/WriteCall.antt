@@ -19,6 +19,7 @@ use Rattle.rules.specs.Memory.{Mem, sizeR, slotAt, headAt, sizeN, wordsA
 use Rattle.rules.specs.Outcome.{Outcome, refuse, test, isCell, slotTests, rowTest}
 use Rattle.rules.specs.Read.{own}
 use Rattle.rules.specs.Write.{prepared, writeNow, headTests, replaced, writeOut}
+use Rattle.rules.specs.History.{ifWrote}
 use Rattle.rules.specs.Theory.CellLaws.{HasCell, length-put}
 use Rattle.rules.specs.Theory.View.{viewOf, get-slots, upd}
 use Rattle.rules.specs.Theory.Effects.{slotV, prepareV, withVers}
@@ -32,7 +33,7 @@ use Rattle.rules.specs.Theory.Locks.{locks-write, Locks, locks-same}
 use Rattle.rules.specs.Theory.Reading.{Own, own-is}
 use Rattle.rules.specs.Theory.Guard.{guardCase, passed-split}
 use Rattle.rules.specs.Theory.Same.{same-prepared, shaped-prepared, Same, same-shaped}
-use Rattle.rules.specs.Theory.Good.{Good, ifWrote, histWrite, owner, Owner, view-open, view-id, cell-in}
+use Rattle.rules.specs.Theory.Good.{Good, histWrite, owner, Owner, view-open, view-id, cell-in}
 
 module _ {z : Sizes} (R N : ℕ) (m : Mem z) (h : Hist) (gd : Good R N m h) (s id row : ℕ) (v : Option ℕ) where
   abbrev Kept : Outcome z Answer ℕ → Type 0

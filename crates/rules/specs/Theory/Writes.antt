@@ -1,4 +1,4 @@
--- Write: a cell is handed out and entered, or the own entry's value is replaced.
+-- Write: a cell is handed out and entered-hist, or the own entry's value is replaced.
 use mathlib.Core.List.{List, [], _∷_, _++_}
 use mathlib.Core.Logic.{_≢_}
 use mathlib.Core.Option.{none, some, Option}
@@ -12,12 +12,13 @@ use Rattle.rules.specs.Lists.{first}
 use Rattle.rules.specs.Versions.{at, newVersion}
 use Rattle.rules.specs.Slots.{Write, write}
 use Rattle.rules.specs.Abort.{news}
+use Rattle.rules.specs.History.{Val, said}
 use Rattle.rules.specs.Theory.Cases.{byEq}
 use Rattle.rules.specs.Theory.SlotLaws.{withWrite}
 use Rattle.rules.specs.Theory.View.{View, upd, emptySlot, upd-other, upd-same}
 use Rattle.rules.specs.Theory.Effects.{slotV, putSlot, prepareV, withVers, lockV}
 use Rattle.rules.specs.Theory.Counting.{cnt, cnt-same, sum-at}
-use Rattle.rules.specs.Theory.Inv.{Ver, vers, Ghost, Hist, Inv, places, inb, inSlot, nexts, spelled-frame, top-frame, open-frame, verOf, ownFind, Entries, Val, said}
+use Rattle.rules.specs.Theory.Inv.{Ver, vers, Ghost, Hist, Inv, places, inb, inSlot, nexts, spelled-frame, top-frame, open-frame, verOf, ownFind, Entries}
 use Rattle.rules.specs.Theory.Places.{Alone, inb-le, inb-in}
 use Rattle.rules.specs.Theory.Reslot.{reslot-inv}
 use Rattle.rules.specs.Theory.Publish.{versF, nextsF, part-off, ofNext, part-on}
@@ -95,32 +96,32 @@ entries-snoc f R t (u ∷ ws) w en e new =
 module _ (R n : ℕ) (st : View) (g : Ghost) (h : Hist) (i : ℕ) (w : Write) (iv : Inv R n st g h (w .new ∷ [])) (op : slotV st i .id ≢ 0)
     (inR : w .row < R) (first : ownFind (vers st) (slotV st i .writes) (w .row) ≡ none)
     (xm : vers st (w .new) .xmin ≡ slotV st i .id) (x0 : vers st (w .new) .xmax ≡ 0) where
-  abbrev pub entered : Hist
-  entered = record { last = h .last; who = h .who; view = h .view; own = upd (h .own) i (upd (h .own i) (w .row) (some (vers st (w .new) .val))) }
+  abbrev pub entered-hist : Hist
+  entered-hist = record { last = h .last; who = h .who; view = h .view; own = upd (h .own) i (upd (h .own i) (w .row) (some (vers st (w .new) .val))) }
 
-  this-owns : (r : ℕ) → ownFind (vers st) (slotV st i .writes ++ w ∷ []) r ≡ entered .own i r
+  this-owns : (r : ℕ) → ownFind (vers st) (slotV st i .writes ++ w ∷ []) r ≡ entered-hist .own i r
   this-owns r = rw (upd-same (h .own) i _) (byEq r (w .row)
       (λ q. rw (q, upd-same (h .own i) (w .row) (some (vers st (w .new) .val))) (own-snoc-same (vers st) (slotV st i .writes) w first))
       (λ q. rw (upd-other (h .own i) (w .row) r (some (vers st (w .new) .val)) q) (own-snoc-other (vers st) (slotV st i .writes) w r (λ e. q (sym e)) ∙ (iv .opens i op) .owns r)))
 
-  pub enter-inv : Inv R n (putSlot st i (withWrite (slotV st i) w)) g entered []
+  pub enter-inv : Inv R n (putSlot st i (withWrite (slotV st i) w)) g entered-hist []
   unfolding ownFind cnt
-  enter-inv = reslot-inv R n st g h (w .new ∷ []) [] i (slotV st i .writes ++ w ∷ []) (slotV st i .recs) (entered .own) iv op
+  enter-inv = reslot-inv R n st g h (w .new ∷ []) [] i (slotV st i .writes ++ w ∷ []) (slotV st i .recs) (entered-hist .own) iv op
       (λ x. omega (arith, news-snoc x (slotV st i .writes) w)) this-owns (λ j r q. ap (λ (f : ℕ → Option Val). f r) (upd-other (h .own) i j _ q))
       (entries-snoc (vers st) R (slotV st i .id) (slotV st i .writes) w ((iv .opens i op) .entries) first (inR, xm, x0, refl, tt)) ((iv .opens i op) .records) ((iv .opens i op) .apart)
 
 -- WRITE, a new entry: the whole call
 module _ (R n : ℕ) (st : View) (g : Ghost) (h : Hist) (i row : ℕ) (v : Option ℕ) (iv : Inv R n st g h []) (op : slotV st i .id ≢ 0) (inR : row < R)
     (first : ownFind (vers st) (slotV st i .writes) row ≡ none) (room : st .free ≢ 0) where
-  abbrev pub wrote : Hist
-  wrote = record { last = h .last; who = h .who; view = h .view; own = upd (h .own) i (upd (h .own i) row (some (said v (slotV st i .id)))) }
+  abbrev pub wrote-hist : Hist
+  wrote-hist = record { last = h .last; who = h .who; view = h .view; own = upd (h .own) i (upd (h .own i) row (some (said v (slotV st i .id)))) }
 
   new-val : (o : Option ℕ) → verOf (newVersion o (slotV st i .id) 0) .val ≡ said o (slotV st i .id)
   unfolding verOf
   new-val none = refl
   new-val (some k) = refl
 
-  write-go : (fl : List ℕ) → g .fl ≡ fl → (g′ : Ghost) × Inv R n (prepareV i (slotV st i .id) row v st) g′ wrote []
+  write-go : (fl : List ℕ) → g .fl ≡ fl → (g′ : Ghost) × Inv R n (prepareV i (slotV st i .id) row v st) g′ wrote-hist []
   unfolding verOf
   write-go [] e = absurd (room (rw e at (iv .frees)))
   write-go (c ∷ l) e =
@@ -136,7 +137,7 @@ module _ (R n : ℕ) (st : View) (g : Ghost) (h : Hist) (i row : ℕ) (v : Optio
       let none-yet : ownFind (vers st₂) (slotV st i .writes) row ≡ none = (iv₂ .opens i op) .owns row ∙ sym ((iv .opens i op) .owns row) ∙ first in
       let q = enter-inv R n st₂ g₂ h i w iv₂ op inR none-yet (ap (λ (x : Ver). x .xmin) vc) (ap (λ (x : Ver). x .xmax) vc) in
       let q₁ = subst (λ (x : Val). Inv R n (putSlot st₂ i (withWrite (slotV st₂ i) w)) g₂ (record { last = h .last; who = h .who; view = h .view; own = upd (h .own) i (upd (h .own i) row (some x)) }) []) (ap (λ (x : Ver). x .val) vc ∙ new-val v) q in
-      (g₂, subst (λ (x : ℕ). Inv R n (putSlot (takeV x z st₁) i (withWrite (slotV st₂ i) (write row (st .heads row) x))) g₂ wrote []) (sym (free-is R n st g h c l iv e)) q₁)
+      (g₂, subst (λ (x : ℕ). Inv R n (putSlot (takeV x z st₁) i (withWrite (slotV st₂ i) (write row (st .heads row) x))) g₂ wrote-hist []) (sym (free-is R n st g h c l iv e)) q₁)
 
-  pub write-inv : (g′ : Ghost) × Inv R n (prepareV i (slotV st i .id) row v st) g′ wrote []
+  pub write-inv : (g′ : Ghost) × Inv R n (prepareV i (slotV st i .id) row v st) g′ wrote-hist []
   write-inv = write-go (g .fl) refl
