@@ -21,3 +21,5 @@ pub mod WholeRun
 pub mod WordLaws
 pub mod Verdicts
 pub mod WorkedNumbers
+pub mod History
+pub mod Theory
