@@ -18,6 +18,7 @@ pub mod Vacuum
 pub mod Lookup
 pub mod Run
 pub mod WholeRun
+pub mod Lent
 pub mod WordLaws
 pub mod Verdicts
 pub mod WorkedNumbers
