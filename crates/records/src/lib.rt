@@ -15,6 +15,9 @@ pub struct Slot {
 // The id of an empty slot.
 const EMPTY: u64 = 0;
 
+// Where both walks begin: no slot is passed over.
+const FIRST: usize = 0;
+
 fn lesser(a: u64, b: u64) -> u64
     ensures { λ r. ⌜ r ≡ min a b ⌝ }
 {
@@ -53,7 +56,7 @@ fn least_xmin(slots: &[Slot], ceiling: u64) -> u64
     ensures { λ r. ⌜ r ≡ least ceiling (xmins (now (slots .entry))) ⌝ }
 {
     let mut least = ceiling;
-    let mut i = 0;
+    let mut i = FIRST;
     while i < slots.len() {
         least = lower_to_xmin(slots[i], least);
         i += 1;
@@ -75,7 +78,7 @@ pub extern "C" fn least_active(slots: &[Slot], clock: u64) -> u64
     ensures { λ r. ⌜ r ≡ leastActive (now (slots .entry)) clock ⌝ }
 {
     let mut least = clock;
-    let mut i = 0;
+    let mut i = FIRST;
     while i < slots.len() {
         least = lower_to_id(slots[i], least);
         i += 1;
