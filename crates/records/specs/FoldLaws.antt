@@ -1,6 +1,6 @@
 -- The code goes through the slots from the first to the last and lowers one number. It comes to the definitions of `Horizon.antt`, which
--- speak of the occupied slots and of no order. `next-slot` and `no-slot-left` are the turn and the end of a loop over the list.
-use Prim.Native.Nat.{ℕ, suc, _+_, _<_, _≤_, min}
+-- speak of the occupied slots and of no order. `fold-next` and `fold-end` are the turn and the end of a loop over a list.
+use Prim.Native.Nat.{ℕ, _+_, _<_, _≤_, min}
 use native.Mathlib.Nat.{le-antisymm}
 use native.Mathlib.Numerals.{add-one}
 use native.Mathlib.Omega.{arith}

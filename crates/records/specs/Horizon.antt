@@ -18,7 +18,7 @@ occupied slots = keep isOccupied slots
 abbrev pub xmins : List Slot → List ℕ
 xmins slots = map (λ s. s .xmin) (occupied slots)
 
--- "active ids": the ids of all occupied slots
+-- "active = occupied slots": their ids
 abbrev pub ids : List Slot → List ℕ
 ids slots = map (λ s. s .id) (occupied slots)
 
@@ -26,7 +26,7 @@ ids slots = map (λ s. s .id) (occupied slots)
 unfoldable pub horizonOf : List Slot → ℕ → ℕ → ℕ
 horizonOf slots clock request = least (min request clock) (xmins slots)
 
--- "xmin = smallest" of the active ids, and the clock where there is none
+-- "the least active id"; as Begin has it of a snapshot's xmin, never above the clock, and the clock where no slot is occupied
 unfoldable pub leastActive : List Slot → ℕ → ℕ
 leastActive slots clock = least clock (ids slots)
 

@@ -87,7 +87,7 @@ least-active-is-the-least slots clock = least-is-least clock (ids slots)
 
 -- ---- slot by slot
 
--- the number of every occupied slot is among those that the least is taken of
+-- the number of every occupied slot is among those that the least is taken of; `d` is what would stand past the end
 pub occupied-counts : (own : Slot → ℕ) (slots : List Slot) (i : ℕ) (d : Slot) → i < length slots → getD slots i d .id ≢ 0 → has (own (getD slots i d)) (map own (occupied slots)) ≡ true
 unfolding keep
 occupied-counts own [] i d h n = absurd (omega arith)
@@ -109,6 +109,7 @@ module _ (slots : List Slot) (clock request : ℕ) where
   horizon-at-most-xmin i d h n =
       horizon-is-the-least slots clock request .at-most _ (there _ request (clock ∷ xmins slots) (there _ clock (xmins slots) (occupied-counts (λ s. s .xmin) slots i d h n)))
 
+module _ (slots : List Slot) (clock : ℕ) where
   pub least-active-at-most-clock : leastActive slots clock ≤ clock
   least-active-at-most-clock = least-active-is-the-least slots clock .at-most clock (here clock clock (ids slots) refl)
 

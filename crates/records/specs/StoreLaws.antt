@@ -5,9 +5,10 @@ use mathlib.Core.Bool.{Bool, true, false}
 use mathlib.Core.List.{List, [], _∷_, map}
 use mathlib.Core.Path.{_≡_, refl}
 use lib.Dec.{eqb}
-use lib.ListN.{getD}
+use lib.ListN.{getD, take}
 use Rattle.rules.specs.Lists.{keep}
-use Rattle.rules.specs.Sizes.{ID, LOW}
+use Rattle.rules.specs.Sizes.{Sizes, ID, LOW}
+use Rattle.rules.specs.Memory.{Mem, clock}
 use Rattle.rules.specs.Snapshot as store
 use Rattle.records.specs.declared.Slot.{Slot}
 use Rattle.records.specs.Horizon.{occupied, horizonOf, leastActive}
@@ -30,6 +31,10 @@ same-occupied k own (t ∷ l) e = byTest (same-occupied k own l e) (eqb (getD t 
 pub horizon-of-store : (slots : List (List ℕ)) (clock request : ℕ) → horizonOf (map recordOf slots) clock request ≡ store.horizonOf request clock slots
 unfolding horizonOf store.horizonOf
 horizon-of-store slots clock request = rw (same-occupied LOW (λ s. s .xmin) slots (λ t. refl))
+
+-- the same of a whole store
+pub horizon-of-memory : {z : Sizes} (m : Mem z) (request : ℕ) → horizonOf (map recordOf (take (z .slots) (m .slots))) (clock m) request ≡ store.horizon m request
+horizon-of-memory {z} m request = horizon-of-store (take (z .slots) (m .slots)) (clock m) request
 
 -- and the least active id is the xmin that a snapshot gets
 pub least-active-of-store : (slots : List (List ℕ)) (clock : ℕ) → leastActive (map recordOf slots) clock ≡ store.snapLow clock (store.occupied ID slots)

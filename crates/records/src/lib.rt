@@ -1,5 +1,6 @@
 // The slots for hosts: records of two numbers that lie side by side, and what is taken over that lent list. Nothing is changed, nothing
-// is asked of the list, and it may have any length. The walks and their callees are apart: what a record counts for is in small functions by value.
+// is asked of the list, and it may have any length. A function over a list of structs is proved by a walk by hand: those are thin, and leave
+// what a slot counts for to functions by value.
 ghost use mathlib.Core.Path.{_≡_};
 ghost use Prim.Native.Nat.{min};
 ghost use Rattle.rules.specs.Lists.{least};
@@ -11,9 +12,6 @@ pub struct Slot {
     pub id: u64,
     pub xmin: u64,
 }
-
-// The id of an empty slot.
-const EMPTY: u64 = 0;
 
 // Where both walks begin: no slot is passed over.
 const FIRST: usize = 0;
@@ -31,24 +29,26 @@ fn ceiling(clock: u64, request: u64) -> u64
     lesser(request, clock)
 }
 
-// `least` and one slot's xmin, if it is occupied.
+// A slot with the number `own` lowers `least` to it; an empty one (id 0) does not count.
+fn lower(id: u64, own: u64, least: u64) -> u64
+    ensures { λ r. ⌜ r ≡ lowered id own least ⌝ }
+{
+    if id == 0 {
+        return least;
+    }
+    lesser(own, least)
+}
+
 fn lower_to_xmin(s: Slot, least: u64) -> u64
     ensures { λ r. ⌜ r ≡ lowered (s .id) (s .xmin) least ⌝ }
 {
-    if s.id == EMPTY {
-        return least;
-    }
-    lesser(s.xmin, least)
+    lower(s.id, s.xmin, least)
 }
 
-// `least` and one slot's id, if it is occupied.
 fn lower_to_id(s: Slot, least: u64) -> u64
     ensures { λ r. ⌜ r ≡ lowered (s .id) (s .id) least ⌝ }
 {
-    if s.id == EMPTY {
-        return least;
-    }
-    lesser(s.id, least)
+    lower(s.id, s.id, least)
 }
 
 // The least of the ceiling and the xmin of every occupied slot.
