@@ -1,0 +1,4 @@
+pub mod Horizon
+pub mod FoldLaws
+pub mod LeastLaws
+pub mod StoreLaws
