@@ -1,0 +1,3 @@
+pub mod Sights
+pub mod LookLaws
+pub mod CellReads
