@@ -137,7 +137,7 @@ pub enum Verdict {
 
 // ---- visibility
 
-fn at_most(x: u64, most: u64) -> u64
+pub fn at_most(x: u64, most: u64) -> u64
     ensures { λ r. ⌜ r ≡ min x most ⌝ }
 {
     if x < most { x } else { most }
