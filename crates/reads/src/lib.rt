@@ -18,6 +18,7 @@ ghost use Rattle.rules.specs.Slots.{slotOf, rec, addRec};
 ghost use Rattle.rules.specs.Chain.{look};
 ghost use Rattle.rules.specs.Read as spec;
 ghost use Rattle.reads.specs.Found.{ownOf, foundOf};
+ghost use Rattle.reads.specs.Sights.{told, recordOf};
 
 // The cell of a row's own write.
 pub enum Own {
@@ -107,4 +108,60 @@ pub fn add_record(slot: &mut [u64; WIDTH], row: u64, c: Cell, xmin: TxId)
     slot[e + 1] = c.0;
     slot[e + 2] = xmin.0;
     slot[READS] = count + 1;
+}
+
+// What a read of one row comes to: a refusal; a cell with nothing to record (cell 0 is no version); a cell that is to be recorded.
+pub enum Sight {
+    Blocked { number: u64, value: u64 },
+    Known(Cell),
+    Fresh { cell: Cell, xmin: TxId },
+}
+
+const CHAIN_TOO_LONG: u64 = 10;
+
+const READ_SET_FULL: u64 = 13;
+
+const DAMAGED: u64 = 15;
+
+// A version found on the chain: is it to be recorded, and is there room?
+fn recording(cells: &[[u64; CELL_WORDS]], slot: &[u64; WIDTH], c: Cell, row: u64) -> Sight
+    ensures { λ r. ⌜ told row r ≡ recordOf (versionAt (now (cells .entry))) (slotOf base (now (slot .entry)) .recs) row (c .0) ⌝ }
+{
+    if is_recorded(slot, c) {
+        return Sight::Known(c);
+    }
+    if slot[READS] >= MOST_READS as u64 {
+        return Sight::Blocked {
+            number: READ_SET_FULL,
+            value: row,
+        };
+    }
+    let v = arena::version_at(cells, c);
+    let xmin = v.xmin;
+    Sight::Fresh { cell: c, xmin }
+}
+
+pub fn read_row(
+    cells: &[[u64; CELL_WORDS]],
+    n: u64,
+    slot: &[u64; WIDTH],
+    head: Cell,
+    row: u64,
+) -> Sight
+    ensures { λ r. ⌜ told row r ≡ spec.readRow base n (versionAt (now (cells .entry))) (head .0)
+        (slotOf base (now (slot .entry))) (slotOf base (now (slot .entry)) .recs) row ⌝ }
+{
+    match find_row(cells, n, slot, head, row) {
+        Found::Own(c) => Sight::Known(c),
+        Found::Version(c) => recording(cells, slot, c, row),
+        Found::Nothing => Sight::Known(Cell(0)),
+        Found::TooLong => Sight::Blocked {
+            number: CHAIN_TOO_LONG,
+            value: row,
+        },
+        Found::Harmed => Sight::Blocked {
+            number: DAMAGED,
+            value: 0,
+        },
+    }
 }
