@@ -1,0 +1,187 @@
+// What every call tests first: sizes and clock, then slot, owner and counts. And the names of the refusals.
+use rules::ACTIVE;
+use rules::CELL_WORDS;
+use rules::CELLS;
+use rules::CLOCK;
+use rules::ID;
+use rules::META_WORDS;
+use rules::MOST_CELLS;
+use rules::MOST_READS;
+use rules::MOST_ROWS;
+use rules::MOST_WRITES;
+use rules::READS;
+use rules::ROWS;
+use rules::SLOTS;
+use rules::TxId;
+use rules::Verdict;
+use rules::WIDTH;
+use rules::WRITES;
+ghost use mathlib.Core.Path.{_≡_};
+ghost use Rattle.rules.specs.Sizes.{base};
+ghost use Rattle.rules.specs.Outcome as spec;
+ghost use Rattle.rules.specs.Outcome.{storeTests, slotTests};
+ghost use Rattle.rules.specs.Verdicts.{verdict};
+ghost use Rattle.rules.specs.Lent.{memIn};
+ghost use Rattle.gate.specs.FineLaws.{ownerTests};
+
+// ---- paper 01's numbers for "no", as the rules name them
+
+pub const BAD_SIZE: u64 = 1;
+
+pub const CLOCK_SPENT: u64 = 2;
+
+pub const NO_FREE_SLOT: u64 = 3;
+
+pub const BAD_SLOT: u64 = 4;
+
+pub const NOT_OWNER: u64 = 5;
+
+pub const BAD_ROW: u64 = 6;
+
+pub const ROW_LOCKED: u64 = 7;
+
+pub const WRITE_CONFLICT: u64 = 8;
+
+pub const READ_CONFLICT: u64 = 9;
+
+pub const CHAIN_TOO_LONG: u64 = 10;
+
+pub const NO_ROOM: u64 = 11;
+
+pub const WRITE_SET_FULL: u64 = 12;
+
+pub const READ_SET_FULL: u64 = 13;
+
+pub const RESULT_FULL: u64 = 14;
+
+pub const DAMAGED: u64 = 15;
+
+// ---- the tests
+
+// R and N are in range, and the lent lengths are long enough for them.
+pub fn fits(
+    meta: &[u64],
+    rows: &[u64],
+    cells: &[[u64; CELL_WORDS]],
+    slots: &[[u64; WIDTH]],
+    r: u64,
+    n: u64,
+) -> bool
+    ensures { λ a. ⌜ a ≡ spec.fits (memIn meta rows cells slots) r n ⌝ }
+{
+    if r < 1 {
+        return false;
+    }
+    if r > MOST_ROWS as u64 {
+        return false;
+    }
+    if n < 1 {
+        return false;
+    }
+    if n > MOST_CELLS as u64 {
+        return false;
+    }
+    if meta.len() < META_WORDS {
+        return false;
+    }
+    if (rows.len() as u64) < r {
+        return false;
+    }
+    if (cells.len() as u64) < n {
+        return false;
+    }
+    SLOTS <= slots.len()
+}
+
+// The saved sizes fit, and the clock is not 0.
+pub fn check_store(
+    meta: &[u64],
+    rows: &[u64],
+    cells: &[[u64; CELL_WORDS]],
+    slots: &[[u64; WIDTH]],
+) -> Verdict
+    ensures { λ v. ⌜ v ≡ verdict (storeTests (memIn meta rows cells slots)) ⌝ }
+{
+    // nothing is saved in a meta that is too short
+    if meta.len() < META_WORDS {
+        return Verdict::Refused {
+            number: DAMAGED,
+            value: 0,
+        };
+    }
+    if !fits(meta, rows, cells, slots, meta[ROWS], meta[CELLS]) {
+        return Verdict::Refused {
+            number: DAMAGED,
+            value: 0,
+        };
+    }
+    if meta[CLOCK] == 0 {
+        return Verdict::Refused {
+            number: DAMAGED,
+            value: 0,
+        };
+    }
+    Verdict::Fine
+}
+
+// The slot is the presented id's, and its counts are within their limits. An empty slot's id is 0, and so is nobody's.
+fn check_owner(slot: &[u64; WIDTH], id: TxId) -> Verdict
+    ensures { λ v. ⌜ v ≡ verdict (ownerTests base (now (slot .entry)) (id .0)) ⌝ }
+{
+    let found = slot[ID];
+    if id.0 == 0 {
+        return Verdict::Refused {
+            number: NOT_OWNER,
+            value: found,
+        };
+    }
+    if id.0 != found {
+        return Verdict::Refused {
+            number: NOT_OWNER,
+            value: found,
+        };
+    }
+    if slot[ACTIVE] > SLOTS as u64 {
+        return Verdict::Refused {
+            number: DAMAGED,
+            value: 0,
+        };
+    }
+    if slot[WRITES] > MOST_WRITES as u64 {
+        return Verdict::Refused {
+            number: DAMAGED,
+            value: 0,
+        };
+    }
+    if slot[READS] > MOST_READS as u64 {
+        return Verdict::Refused {
+            number: DAMAGED,
+            value: 0,
+        };
+    }
+    Verdict::Fine
+}
+
+// The store is whole, the slot is there, and it is the presented id's.
+pub fn check_slot(
+    meta: &[u64],
+    rows: &[u64],
+    cells: &[[u64; CELL_WORDS]],
+    slots: &[[u64; WIDTH]],
+    slot: u64,
+    id: TxId,
+) -> Verdict
+    ensures { λ v. ⌜ v ≡ verdict (slotTests (memIn meta rows cells slots) slot (id .0)) ⌝ }
+{
+    let store = check_store(meta, rows, cells, slots);
+    let Verdict::Fine = store else {
+        return store;
+    };
+    if slot >= SLOTS as u64 {
+        return Verdict::Refused {
+            number: BAD_SLOT,
+            value: 0,
+        };
+    }
+    check_owner(&slots[slot as usize], id)
+}
