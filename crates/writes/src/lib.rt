@@ -1,0 +1,162 @@
+// A write: its tests on the row's head and on room, and what it stores.
+use rules::CELL_WORDS;
+use rules::CELLS;
+use rules::Cell;
+use rules::FREE;
+use rules::MOST_WRITES;
+use rules::TxId;
+use rules::Value;
+use rules::Verdict;
+use rules::Version;
+use rules::WIDTH;
+use rules::WRITES;
+ghost use mathlib.Core.Path.{_≡_};
+ghost use mathlib.Core.List.{[]};
+ghost use Prim.Native.Nat.{_<_, _≤_};
+ghost use lib.ListN.{length, getD, set};
+ghost use Rattle.rules.specs.Sizes.{base, metaWords};
+ghost use Rattle.rules.specs.Sizes as words;
+ghost use Rattle.rules.specs.Versions.{given, newVersion, withValue, versionAt, linkAt, putCell, putVersion};
+ghost use Rattle.rules.specs.Slots.{slotOf, write, addWrite};
+ghost use Rattle.rules.specs.Memory.{mem};
+ghost use Rattle.rules.specs.Write.{lockBase, headTests};
+ghost use Rattle.rules.specs.Verdicts.{verdict};
+ghost use Rattle.rules.specs.Theory.CellLaws.{HasCell};
+ghost use Rattle.writes.specs.Room.{roomTests};
+
+const ROW_LOCKED: u64 = 7;
+
+const WRITE_CONFLICT: u64 = 8;
+
+const NO_ROOM: u64 = 11;
+
+const WRITE_SET_FULL: u64 = 12;
+
+const DAMAGED: u64 = 15;
+
+// A saved word; 0 where the header is too short to hold it.
+fn saved(meta: &[u64], i: usize) -> u64
+    ensures { λ r. ⌜ r ≡ getD (now (meta .entry)) i 0 ⌝ }
+{
+    if i < meta.len() {
+        return meta[i];
+    }
+    0
+}
+
+// The row has no own entry: may its head be the base of one?
+pub fn check_head(
+    meta: &[u64],
+    cells: &[[u64; CELL_WORDS]],
+    slot: &[u64; WIDTH],
+    id: TxId,
+    row: u64,
+    head: Cell,
+) -> Verdict
+    ensures { λ r. ⌜ r ≡ verdict (headTests (mem {z = base} (now (meta .entry)) [] (now (cells .entry)) []) (slotOf base (now (slot .entry))) (id .0) row (head .0)) ⌝ }
+{
+    if saved(meta, CELLS) < head.0 {
+        return Verdict::Refused {
+            number: DAMAGED,
+            value: 0,
+        };
+    }
+    if head.0 == 0 {
+        return Verdict::Fine;
+    }
+    let v = arena::version_at(cells, head);
+    if v.is_locked_by_other(id) {
+        return Verdict::Refused {
+            number: ROW_LOCKED,
+            value: row,
+        };
+    }
+    if !v.is_visible(slot) {
+        return Verdict::Refused {
+            number: WRITE_CONFLICT,
+            value: row,
+        };
+    }
+    Verdict::Fine
+}
+
+// Is there room for an entry, and a free cell?
+pub fn check_room(meta: &[u64], slot: &[u64; WIDTH]) -> Verdict
+    ensures { λ r. ⌜ r ≡ verdict (roomTests base (now (meta .entry)) (now (slot .entry))) ⌝ }
+{
+    if slot[WRITES] >= MOST_WRITES as u64 {
+        return Verdict::Refused {
+            number: WRITE_SET_FULL,
+            value: 0,
+        };
+    }
+    let free = saved(meta, FREE);
+    if free == 0 {
+        return Verdict::Refused {
+            number: NO_ROOM,
+            value: 0,
+        };
+    }
+    if saved(meta, CELLS) < free {
+        return Verdict::Refused {
+            number: DAMAGED,
+            value: 0,
+        };
+    }
+    Verdict::Fine
+}
+
+// The base is locked for this id; a row without a version has nothing to lock.
+fn lock_base(cells: &mut [[u64; CELL_WORDS]], head: Cell, id: TxId)
+    requires { ⌜ head .0 ≤ length (now cells) ⌝ }
+    ensures { λ _. ⌜ now (cells .exit) ≡ lockBase (now (cells .entry)) (head .0) (id .0) ⌝ }
+{
+    if head.0 == 0 {
+        return;
+    }
+    let v = arena::version_at(cells, head);
+    arena::put_version(cells, head, v.locked_for(id));
+}
+
+// A cell is taken from the free list and prepared. Its link is read before the base is locked: on damaged memory they may be one cell.
+pub fn prepare(
+    meta: &mut [u64],
+    cells: &mut [[u64; CELL_WORDS]],
+    head: Cell,
+    id: TxId,
+    value: Value,
+)
+    requires { ⌜ metaWords ≤ length (now meta) ⌝ }
+    requires { ⌜ head .0 ≤ length (now cells) ⌝ }
+    requires { ⌜ HasCell (now cells) (getD (now meta) words.FREE 0) ⌝ }
+    ensures { λ _. ⌜ now (meta .exit) ≡ set (now (meta .entry)) words.FREE (linkAt (now (cells .entry)) (getD (now (meta .entry)) words.FREE 0)) ⌝ }
+    ensures { λ _. ⌜ now (cells .exit) ≡ putCell (lockBase (now (cells .entry)) (head .0) (id .0)) (getD (now (meta .entry)) words.FREE 0)
+        (newVersion (given value) (id .0) 0) 0 ⌝ }
+{
+    let c = meta[FREE];
+    meta[FREE] = arena::link_at(cells, Cell(c));
+    lock_base(cells, head, id);
+    arena::put_cell(cells, Cell(c), Version::new(value, id, Cell(0)), 0);
+}
+
+// An own entry's value, replaced in its cell.
+pub fn replace(cells: &mut [[u64; CELL_WORDS]], c: Cell, value: Value)
+    requires { ⌜ HasCell (now cells) (c .0) ⌝ }
+    ensures { λ _. ⌜ now (cells .exit) ≡ putVersion (now (cells .entry)) (c .0) (withValue (versionAt (now (cells .entry)) (c .0)) (given value)) ⌝ }
+{
+    let v = arena::version_at(cells, c);
+    arena::put_version(cells, c, v.with_value(value));
+}
+
+// One entry more.
+pub fn add_entry(slot: &mut [u64; WIDTH], row: u64, head: Cell, new: Cell)
+    requires { ⌜ getD (now slot) (words.WRITES base) 0 < base .writes ⌝ }
+    ensures { λ _. ⌜ now (slot .exit) ≡ addWrite base (write row (head .0) (new .0)) (now (slot .entry)) ⌝ }
+{
+    let count = slot[WRITES];
+    let e = WRITES + 1 + 3 * (count as usize);
+    slot[e] = row;
+    slot[e + 1] = head.0;
+    slot[e + 2] = new.0;
+    slot[WRITES] = count + 1;
+}
