@@ -1,2 +1,3 @@
 pub mod Gathered
 pub mod PlaceLaws
+pub mod OpenedAt

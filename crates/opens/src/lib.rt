@@ -11,15 +11,16 @@ use rules::WRITES;
 use slots::Snapshot;
 ghost use mathlib.Core.Bool.{cond};
 ghost use mathlib.Core.Path.{_≡_};
-ghost use Prim.Native.Nat.{_+_, _≤_, min};
+ghost use Prim.Native.Nat.{_+_, _<_, _≤_, min};
 ghost use lib.Dec.{eqb};
 ghost use lib.ListN.{length, take};
 ghost use lib.Seq.{sets};
-ghost use Rattle.rules.specs.Sizes.{base};
+ghost use Rattle.rules.specs.Sizes.{base, lastId};
 ghost use Rattle.rules.specs.Sizes as words;
 ghost use Rattle.rules.specs.Slots.{opened};
 ghost use Rattle.rules.specs.Snapshot.{occupied};
 ghost use Rattle.opens.specs.Gathered.{Gathered};
+ghost use Rattle.opens.specs.OpenedAt.{openedAt};
 
 fn slots_in(n: usize) -> usize
     ensures { λ r. ⌜ r ≡ min (base .slots) n ⌝ }
@@ -75,4 +76,16 @@ pub fn open_slot(slot: &mut [u64; WIDTH], id: TxId, snapshot: Snapshot, ids: &[u
     put_ids(slot, ids, count);
     slot[WRITES] = 0;
     slot[READS] = 0;
+}
+
+// Slot s opened for a transaction whose id was drawn: its own id is among the active ones, so it is stored before they are gathered.
+pub fn open(slots: &mut [[u64; WIDTH]], s: usize, id: u64)
+    requires { ⌜ (s < length (now slots)) × (id < lastId) ⌝ }
+    ensures { λ _. ⌜ now (slots .exit) ≡ openedAt (now (slots .entry)) s id ⌝ }
+{
+    slots[s][ID] = id;
+    let snapshot = slots::snapshot_of(slots, id + 1);
+    let mut ids = [0; SLOTS];
+    let count = gather(slots, &mut ids);
+    open_slot(&mut slots[s], TxId(id), snapshot, &ids, count);
 }
