@@ -1,14 +1,14 @@
 // The public calls of the version store. Each takes any numbers and any lent memory, and one equation says what it answers and what
 // every lent word is afterwards.
-use rules::Answer;
-use rules::CELL_WORDS;
-use rules::WIDTH;
-use gate::fits;
-use gate::BAD_SIZE;
 use fresh::clear_rows;
 use fresh::clear_slots;
 use fresh::free_cells;
 use fresh::start;
+use gate::BAD_SIZE;
+use gate::fits;
+use rules::Answer;
+use rules::CELL_WORDS;
+use rules::WIDTH;
 ghost use mathlib.Core.Path.{_≡_};
 ghost use mathlib.Core.List.{[]};
 ghost use Rattle.rules.specs.Outcome.{out};
@@ -27,7 +27,10 @@ pub fn create(
     ensures { λ a. ⌜ out a [] (memOut meta rows cells slots) ≡ createOut (memIn meta rows cells slots) n r ⌝ }
 {
     if !fits(meta, rows, cells, slots, r, n) {
-        return Answer::Refused { number: BAD_SIZE, value: 0 };
+        return Answer::Refused {
+            number: BAD_SIZE,
+            value: 0,
+        };
     }
     start(meta, n, r);
     clear_rows(rows, r);
