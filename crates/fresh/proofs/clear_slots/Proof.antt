@@ -1,9 +1,7 @@
 -- The loop's invariant: what is left to store, stored at i, gives what the whole gives.
-use Rattle.fresh.specs.StoreLaws.{fill-turn, fill-end}
-use Rattle.rules.specs.Slots.{emptied}
+use Rattle.fresh.specs.StoreLaws.{clearedFrom, cleared-all, cleared-turn, cleared-end}
 use Rattle.rules.specs.Sizes.{base}
-use lib.Seq.{sets}
-use lib.ListN.{length, length-set, replicate}
+use lib.ListN.{length, length-set}
 use borrow.Author.Needs.{needs}
 use native.Mathlib.Omega.{arith}
 use mathlib.Core.Path.{_≡_, refl, sym, _∙_}
@@ -14,7 +12,7 @@ use Rattle.fresh.proofs.clear_slots.Tie as tie
 abbrev Inv-loop : tie.InvT-loop
 Inv-loop slots₀ k i₀ slots i =
     (k ≡ min (base .slots) (length slots₀)) × (i ≤ k) × (length slots ≡ length slots₀)
-    × (sets slots i (replicate (base .slots - i) (emptied base)) ≡ sets slots₀ 0 (replicate (base .slots) (emptied base)))
+    × (clearedFrom base slots i ≡ clearedFrom base slots₀ 0)
 
 abbrev μ-loop : tie.MeasureT-loop
 μ-loop slots₀ k i₀ slots i = k - i
@@ -35,13 +33,13 @@ loop-less : tie.Need-loop-less Inv-loop μ-loop
 loop-less c = omega arith
 
 loop-again : tie.Need-loop-again Inv-loop μ-loop
-loop-again c = (c .before .loop .inv .0, omega arith, simp length-set (c .before .loop .inv .2), fill-turn (c .before .loop .slots) (base .slots) (c .before .loop .i) (emptied base) (omega arith) ∙ c .before .loop .inv .3)
+loop-again c = (c .before .loop .inv .0, omega arith, simp length-set (c .before .loop .inv .2), cleared-turn base (c .before .loop .slots) (c .before .loop .i) (omega arith) ∙ c .before .loop .inv .3)
 
 same-length : tie.Need-same-length Inv-loop μ-loop
 same-length c = c .before .loop .inv .2
 
 returns : tie.Need-returns Inv-loop μ-loop
-returns c = sym (fill-end (c .before .loop .slots) (base .slots) (c .before .loop .i) (emptied base) (omega arith)) ∙ c .before .loop .inv .3
+returns c = sym (cleared-end base (c .before .loop .slots) (c .before .loop .i) (omega arith)) ∙ c .before .loop .inv .3 ∙ cleared-all base (c .before .before .before .args .slots .now)
 
 pub clear-slots-spec : {M : Type 1} → statement M
 clear-slots-spec =
