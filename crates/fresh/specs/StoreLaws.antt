@@ -10,7 +10,9 @@ use lib.ListN.{length, set, replicate, getD, drop, length-drop, length-replicate
 use lib.Seq.{sets, set-out, drop-cons}
 use lib.Dec.{eqb, leb, eqb·suc-zero}
 use borrow.Author.Tests.{le-leb, lt-leb}
+use Rattle.rules.specs.Sizes.{Sizes}
 use Rattle.rules.specs.Versions.{emptyVersion, wordsOf}
+use Rattle.rules.specs.Slots.{emptied}
 use Rattle.rules.specs.Create.{freshCells}
 
 module _ {A : Type 0} where
@@ -62,3 +64,22 @@ fresh-turn l n i h =
 
 pub fresh-end : (l : List (List ℕ)) (n i : ℕ) → min n (length l) ≤ i → sets l i (freshCells (n - i) (i + 1)) ≡ l
 fresh-end l n i h = sets-end (freshCells (n - i) (i + 1)) l i (rw length-fresh (omega arith))
+
+-- the slots from slot i on, emptied. Shut, since written out it is long
+unfoldable pub clearedFrom : Sizes → List (List ℕ) → ℕ → List (List ℕ)
+clearedFrom z ss i = sets ss i (replicate (z .slots - i) (emptied z))
+
+module _ (z : Sizes) (ss : List (List ℕ)) where
+  pub cleared-all : clearedFrom z ss 0 ≡ sets ss 0 (replicate (z .slots) (emptied z))
+  unfolding clearedFrom
+  cleared-all =
+      let e : z .slots - 0 ≡ z .slots = omega arith in
+      rw e
+
+  pub cleared-turn : (i : ℕ) → i < z .slots → clearedFrom z (set ss i (emptied z)) (i + 1) ≡ clearedFrom z ss i
+  unfolding clearedFrom
+  cleared-turn i h = fill-turn ss (z .slots) i (emptied z) h
+
+  pub cleared-end : (i : ℕ) → min (z .slots) (length ss) ≤ i → clearedFrom z ss i ≡ ss
+  unfolding clearedFrom
+  cleared-end i h = fill-end ss (z .slots) i (emptied z) h

@@ -17,11 +17,25 @@ use Rattle.rules.specs.Memory.{Mem, sizeR, sizeN, clock, wordsAt}
 use Rattle.rules.specs.Outcome.{Test, test, fits, storeTests, slotTests}
 use Rattle.rules.specs.Verdicts.{verdict, andThen, verdict-append, verdict-fails, verdict-passes}
 
+-- ---- each test, as it fails
+
+-- 15: sizes or clock
+abbrev pub broken : {z : Sizes} → Mem z → Bool
+broken m = not (fits m (sizeR m) (sizeN m)) || eqb (clock m) 0
+
+-- 5: a slot's words, and the presented id
+abbrev pub anothers : List ℕ → ℕ → Bool
+anothers t id = eqb id 0 || not (eqb id (getD t ID 0))
+
+-- 15: a count above its limit
+abbrev pub overfull : Sizes → List ℕ → Bool
+overfull z t = ltb (z .slots) (getD t ACTIVE 0) || (ltb (z .writes) (getD t (WRITES z) 0) || ltb (z .reads) (getD t (READS z) 0))
+
 -- the tests of one slot's words, for the presented id
 unfoldable pub ownerTests : Sizes → List ℕ → ℕ → List Test
 ownerTests z t id =
-    test (eqb id 0 || not (eqb id (getD t ID 0))) notOwner (getD t ID 0)
-    ∷ test (ltb (z .slots) (getD t ACTIVE 0) || (ltb (z .writes) (getD t (WRITES z) 0) || ltb (z .reads) (getD t (READS z) 0))) damaged 0
+    test (anothers t id) notOwner (getD t ID 0)
+    ∷ test (overfull z t) damaged 0
     ∷ []
 
 byBool {ℓ} : {C : Type ℓ} (b : Bool) → (b ≡ true → C) → (b ≡ false → C) → C
@@ -76,9 +90,9 @@ fits-true {z} m r n h =
 fits-short : {z : Sizes} (m : Mem z) (r n : ℕ) → length (m .meta) < metaWords → fits m r n ≡ false
 fits-short m r n h = byBool (fits m r n) (λ e. absurd (let f = fits-true m r n e in omega arith)) (λ e. e)
 
-pub store-short : {z : Sizes} (m : Mem z) → length (m .meta) < metaWords → verdict (storeTests m) ≡ Refused damaged 0
-unfolding storeTests verdict
-store-short m h = rw (fits-short m (sizeR m) (sizeN m) h)
+-- nor is a clock saved there
+pub broken-short : {z : Sizes} (m : Mem z) → length (m .meta) < metaWords → broken m ≡ true
+broken-short m h = rw (fits-short m (sizeR m) (sizeN m) h)
 
 -- a store that a call can work on: the saved sizes fit, and the clock runs
 pub record StoreFine {z : Sizes} (m : Mem z) : Type 0 where
@@ -88,7 +102,7 @@ pub record StoreFine {z : Sizes} (m : Mem z) : Type 0 where
 pub store-fine : {z : Sizes} (m : Mem z) → verdict (storeTests m) ≡ Fine → StoreFine m
 unfolding storeTests verdict
 store-fine m h =
-    byBool (not (fits m (sizeR m) (sizeN m)) || eqb (clock m) 0)
+    byBool (broken m)
     (λ e. absurd (let g = rw e at h in let z : _≡_ {A = ℕ} 0 1 = cc in omega arith))
     (λ e.
     let t = or-neither _ _ e in
@@ -107,11 +121,11 @@ pub record OwnerFine (z : Sizes) (t : List ℕ) (id : ℕ) : Type 0 where
 pub owner-fine : (z : Sizes) (t : List ℕ) (id : ℕ) → verdict (ownerTests z t id) ≡ Fine → OwnerFine z t id
 unfolding ownerTests verdict
 owner-fine z t id h =
-    byBool (eqb id 0 || not (eqb id (getD t ID 0)))
+    byBool (anothers t id)
     (λ e. absurd (let g = rw e at h in let z : _≡_ {A = ℕ} 0 1 = cc in omega arith))
     (λ e.
     let g = rw e at h in
-    byBool (ltb (z .slots) (getD t ACTIVE 0) || (ltb (z .writes) (getD t (WRITES z) 0) || ltb (z .reads) (getD t (READS z) 0)))
+    byBool (overfull z t)
     (λ f. absurd (let k = rw f at g in let z : _≡_ {A = ℕ} 0 1 = cc in omega arith))
     (λ f.
     let o = or-neither _ _ e in

@@ -22,7 +22,7 @@ ghost use Rattle.rules.specs.Outcome as spec;
 ghost use Rattle.rules.specs.Outcome.{storeTests, slotTests};
 ghost use Rattle.rules.specs.Verdicts.{verdict};
 ghost use Rattle.rules.specs.Lent.{memIn};
-ghost use Rattle.gate.specs.FineLaws.{ownerTests};
+ghost use Rattle.gate.specs.FineLaws.{broken, anothers, overfull, ownerTests};
 
 // ---- paper 01's numbers for "no", as the rules name them
 
@@ -93,7 +93,26 @@ pub fn fits(
     SLOTS <= slots.len()
 }
 
-// The saved sizes fit, and the clock is not 0.
+// The saved sizes do not fit, or the clock is 0.
+fn is_damaged(
+    meta: &[u64],
+    rows: &[u64],
+    cells: &[[u64; CELL_WORDS]],
+    slots: &[[u64; WIDTH]],
+) -> bool
+    ensures { λ b. ⌜ b ≡ broken (memIn meta rows cells slots) ⌝ }
+{
+    // a shorter meta saves no sizes and no clock
+    if meta.len() <= CLOCK {
+        return true;
+    }
+    if !fits(meta, rows, cells, slots, meta[ROWS], meta[CELLS]) {
+        return true;
+    }
+    meta[CLOCK] == 0
+}
+
+// The store can be worked on.
 pub fn check_store(
     meta: &[u64],
     rows: &[u64],
@@ -102,20 +121,7 @@ pub fn check_store(
 ) -> Verdict
     ensures { λ v. ⌜ v ≡ verdict (storeTests (memIn meta rows cells slots)) ⌝ }
 {
-    // nothing is saved in a meta that is too short
-    if meta.len() < META_WORDS {
-        return Verdict::Refused {
-            number: DAMAGED,
-            value: 0,
-        };
-    }
-    if !fits(meta, rows, cells, slots, meta[ROWS], meta[CELLS]) {
-        return Verdict::Refused {
-            number: DAMAGED,
-            value: 0,
-        };
-    }
-    if meta[CLOCK] == 0 {
+    if is_damaged(meta, rows, cells, slots) {
         return Verdict::Refused {
             number: DAMAGED,
             value: 0,
@@ -124,36 +130,40 @@ pub fn check_store(
     Verdict::Fine
 }
 
-// The slot is the presented id's, and its counts are within their limits. An empty slot's id is 0, and so is nobody's.
+// An empty slot's id is 0, so 0 is no one's.
+fn is_anothers(slot: &[u64; WIDTH], id: TxId) -> bool
+    ensures { λ b. ⌜ b ≡ anothers (now (slot .entry)) (id .0) ⌝ }
+{
+    if id.0 == 0 {
+        return true;
+    }
+    id.0 != slot[ID]
+}
+
+// One of the three counts is above its limit.
+fn is_overfull(slot: &[u64; WIDTH]) -> bool
+    ensures { λ b. ⌜ b ≡ overfull base (now (slot .entry)) ⌝ }
+{
+    if slot[ACTIVE] > SLOTS as u64 {
+        return true;
+    }
+    if slot[WRITES] > MOST_WRITES as u64 {
+        return true;
+    }
+    slot[READS] > MOST_READS as u64
+}
+
+// The slot is the presented id's, and its lists can be looked at.
 fn check_owner(slot: &[u64; WIDTH], id: TxId) -> Verdict
     ensures { λ v. ⌜ v ≡ verdict (ownerTests base (now (slot .entry)) (id .0)) ⌝ }
 {
-    let found = slot[ID];
-    if id.0 == 0 {
+    if is_anothers(slot, id) {
         return Verdict::Refused {
             number: NOT_OWNER,
-            value: found,
+            value: slot[ID],
         };
     }
-    if id.0 != found {
-        return Verdict::Refused {
-            number: NOT_OWNER,
-            value: found,
-        };
-    }
-    if slot[ACTIVE] > SLOTS as u64 {
-        return Verdict::Refused {
-            number: DAMAGED,
-            value: 0,
-        };
-    }
-    if slot[WRITES] > MOST_WRITES as u64 {
-        return Verdict::Refused {
-            number: DAMAGED,
-            value: 0,
-        };
-    }
-    if slot[READS] > MOST_READS as u64 {
+    if is_overfull(slot) {
         return Verdict::Refused {
             number: DAMAGED,
             value: 0,
@@ -162,7 +172,7 @@ fn check_owner(slot: &[u64; WIDTH], id: TxId) -> Verdict
     Verdict::Fine
 }
 
-// The store is whole, the slot is there, and it is the presented id's.
+// The store can be worked on, the slot is there, and it is the presented id's.
 pub fn check_slot(
     meta: &[u64],
     rows: &[u64],

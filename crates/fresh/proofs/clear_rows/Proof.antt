@@ -1,3 +1,4 @@
+-- The loop's invariant: what is left to store, stored at i, gives what the whole gives.
 use Rattle.fresh.specs.StoreLaws.{fill-turn, fill-end}
 use lib.Seq.{sets}
 use lib.ListN.{length, length-set, replicate}
@@ -7,9 +8,6 @@ use mathlib.Core.Path.{_≡_, refl, sym, _∙_, ap}
 use Prim.Native.Nat.{_+_, _-_, _≤_, min}
 use Rattle.fresh.proofs.clear_rows.Statement.{statement}
 use Rattle.fresh.proofs.clear_rows.Tie as tie
-use Rattle.fresh.proofs.clear_rows.Reads as reads
-use Rattle.fresh.proofs.clear_rows.Lts as lts
-use Rattle.fresh.proofs.fewer.Reads as fewer-reads
 
 abbrev Inv-loop : tie.InvT-loop
 Inv-loop rows₀ r k i₀ rows i =
@@ -18,39 +16,27 @@ Inv-loop rows₀ r k i₀ rows i =
 abbrev μ-loop : tie.MeasureT-loop
 μ-loop rows₀ r k i₀ rows i = k - i
 
--- src/lib.rt:40:9
-fewer-requires : tie.Need-fewer-requires Inv-loop μ-loop
-fewer-requires c κs = search needs
-
--- src/lib.rt:42:5
 loop-holds : tie.Need-loop-holds Inv-loop μ-loop
 loop-holds c = (c .fewer .ensures, omega arith, refl, (let e : c .before .before .args .r - 0 ≡ c .before .before .args .r = omega arith in ap (λ x. sets (c .before .before .args .rows .now) 0 (replicate x 0)) e))
 
--- src/lib.rt:43:9
 mul-rows : tie.Need-mul-rows Inv-loop μ-loop
 mul-rows c = omega arith
 
--- src/lib.rt:43:9
 slice-write-rows : tie.Need-slice-write-rows Inv-loop μ-loop
 slice-write-rows c = omega arith
 
--- src/lib.rt:44:9
 add-i : tie.Need-add-i Inv-loop μ-loop
 add-i c = omega arith
 
--- src/lib.rt:42:5
 loop-less : tie.Need-loop-less Inv-loop μ-loop
 loop-less c = omega arith
 
--- src/lib.rt:42:5
 loop-again : tie.Need-loop-again Inv-loop μ-loop
 loop-again c = (c .before .loop .inv .0, omega arith, simp length-set (c .before .loop .inv .2), fill-turn (c .before .loop .rows) (c .before .before .before .before .args .r) (c .before .loop .i) 0 (omega arith) ∙ c .before .loop .inv .3)
 
--- src/lib.rt:37:1
 same-length : tie.Need-same-length Inv-loop μ-loop
 same-length c = c .before .loop .inv .2
 
--- src/lib.rt:37:1
 returns : tie.Need-returns Inv-loop μ-loop
 returns c = sym (fill-end (c .before .loop .rows) (c .before .before .before .before .args .r) (c .before .loop .i) 0 (omega arith)) ∙ c .before .loop .inv .3
 
@@ -60,7 +46,7 @@ clear-rows-spec =
     (tie.spec
     Inv-loop
     μ-loop
-    fewer-requires
+    (λ c κs. search needs)
     loop-holds
     mul-rows
     slice-write-rows

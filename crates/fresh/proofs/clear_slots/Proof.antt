@@ -1,61 +1,45 @@
-use Rattle.fresh.specs.StoreLaws.{fill-turn, fill-end}
-use Rattle.rules.specs.Slots.{emptied}
+-- The loop's invariant: what is left to store, stored at i, gives what the whole gives.
+use Rattle.fresh.specs.StoreLaws.{clearedFrom, cleared-all, cleared-turn, cleared-end}
 use Rattle.rules.specs.Sizes.{base}
-use lib.Seq.{sets}
-use lib.ListN.{length, length-set, replicate}
+use lib.ListN.{length, length-set}
 use borrow.Author.Needs.{needs}
 use native.Mathlib.Omega.{arith}
 use mathlib.Core.Path.{_≡_, refl, sym, _∙_}
 use Prim.Native.Nat.{_+_, _-_, _≤_, min}
 use Rattle.fresh.proofs.clear_slots.Statement.{statement}
 use Rattle.fresh.proofs.clear_slots.Tie as tie
-use Rattle.fresh.proofs.clear_slots.Reads as reads
-use Rattle.fresh.proofs.clear_slots.Lts as lts
-use Rattle.fresh.proofs.fewer.Reads as fewer-reads
 
 abbrev Inv-loop : tie.InvT-loop
 Inv-loop slots₀ k i₀ slots i =
     (k ≡ min (base .slots) (length slots₀)) × (i ≤ k) × (length slots ≡ length slots₀)
-    × (sets slots i (replicate (base .slots - i) (emptied base)) ≡ sets slots₀ 0 (replicate (base .slots) (emptied base)))
+    × (clearedFrom base slots i ≡ clearedFrom base slots₀ 0)
 
 abbrev μ-loop : tie.MeasureT-loop
 μ-loop slots₀ k i₀ slots i = k - i
 
--- src/lib.rt:72:9
-fewer-requires : tie.Need-fewer-requires Inv-loop μ-loop
-fewer-requires c κs = search needs
-
--- src/lib.rt:74:5
 loop-holds : tie.Need-loop-holds Inv-loop μ-loop
 loop-holds c = (c .fewer .ensures, omega arith, refl, refl)
 
--- src/lib.rt:75:9
 mul-t8 : tie.Need-mul-t8 Inv-loop μ-loop
 mul-t8 c = omega arith
 
--- src/lib.rt:75:9
 slice-set-from-slots : tie.Need-slice-set-from-slots Inv-loop μ-loop
 slice-set-from-slots c = omega arith
 
--- src/lib.rt:76:9
 add-i : tie.Need-add-i Inv-loop μ-loop
 add-i c = omega arith
 
--- src/lib.rt:74:5
 loop-less : tie.Need-loop-less Inv-loop μ-loop
 loop-less c = omega arith
 
--- src/lib.rt:74:5
 loop-again : tie.Need-loop-again Inv-loop μ-loop
-loop-again c = (c .before .loop .inv .0, omega arith, simp length-set (c .before .loop .inv .2), fill-turn (c .before .loop .slots) (base .slots) (c .before .loop .i) (emptied base) (omega arith) ∙ c .before .loop .inv .3)
+loop-again c = (c .before .loop .inv .0, omega arith, simp length-set (c .before .loop .inv .2), cleared-turn base (c .before .loop .slots) (c .before .loop .i) (omega arith) ∙ c .before .loop .inv .3)
 
--- src/lib.rt:69:1
 same-length : tie.Need-same-length Inv-loop μ-loop
 same-length c = c .before .loop .inv .2
 
--- src/lib.rt:69:1
 returns : tie.Need-returns Inv-loop μ-loop
-returns c = sym (fill-end (c .before .loop .slots) (base .slots) (c .before .loop .i) (emptied base) (omega arith)) ∙ c .before .loop .inv .3
+returns c = sym (cleared-end base (c .before .loop .slots) (c .before .loop .i) (omega arith)) ∙ c .before .loop .inv .3 ∙ cleared-all base (c .before .before .before .args .slots .now)
 
 pub clear-slots-spec : {M : Type 1} → statement M
 clear-slots-spec =
@@ -63,7 +47,7 @@ clear-slots-spec =
     (tie.spec
     Inv-loop
     μ-loop
-    fewer-requires
+    (λ c κs. search needs)
     loop-holds
     mul-t8
     slice-set-from-slots

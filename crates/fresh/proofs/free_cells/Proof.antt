@@ -1,3 +1,4 @@
+-- The loop's invariant: the cells left, stored at i, give what the whole list gives. `link_after` gives each cell's link.
 use Rattle.fresh.specs.StoreLaws.{fresh-turn, fresh-end}
 use Rattle.rules.specs.Versions.{wordsOf}
 use Rattle.rules.specs.Create.{freshCells}
@@ -9,10 +10,6 @@ use mathlib.Core.Path.{_≡_, refl, sym, _∙_, ap}
 use Prim.Native.Nat.{_+_, _-_, _≤_, min}
 use Rattle.fresh.proofs.free_cells.Statement.{statement}
 use Rattle.fresh.proofs.free_cells.Tie as tie
-use Rattle.fresh.proofs.free_cells.Reads as reads
-use Rattle.fresh.proofs.free_cells.Lts as lts
-use Rattle.fresh.proofs.fewer.Reads as fewer-reads
-use Rattle.fresh.proofs.link_after.Reads as link-after-reads
 
 abbrev Inv-loop : tie.InvT-loop
 Inv-loop cells₀ n k i₀ cells i =
@@ -21,48 +18,31 @@ Inv-loop cells₀ n k i₀ cells i =
 abbrev μ-loop : tie.MeasureT-loop
 μ-loop cells₀ n k i₀ cells i = k - i
 
--- src/lib.rt:59:9
-fewer-requires : tie.Need-fewer-requires Inv-loop μ-loop
-fewer-requires c κs = search needs
-
--- src/lib.rt:61:5
 loop-holds : tie.Need-loop-holds Inv-loop μ-loop
 loop-holds c = (c .fewer .ensures, omega arith, refl, ap (λ x. sets (c .before .args .cells .now) 0 (freshCells x 1)) (omega arith))
 
--- src/lib.rt:62:31
 add-link-after : tie.Need-add-link-after Inv-loop μ-loop
 add-link-after c = omega arith
 
--- src/lib.rt:62:13
-link-after-requires : tie.Need-link-after-requires Inv-loop μ-loop
-link-after-requires c κs = search needs
-
--- src/lib.rt:63:9
 mul-t11 : tie.Need-mul-t11 Inv-loop μ-loop
 mul-t11 c = omega arith
 
--- src/lib.rt:63:9
 slice-set-from-cells : tie.Need-slice-set-from-cells Inv-loop μ-loop
 slice-set-from-cells c = omega arith
 
--- src/lib.rt:64:9
 add-i : tie.Need-add-i Inv-loop μ-loop
 add-i c = omega arith
 
--- src/lib.rt:61:5
 loop-less : tie.Need-loop-less Inv-loop μ-loop
 loop-less c = omega arith
 
--- src/lib.rt:61:5
 loop-again : tie.Need-loop-again Inv-loop μ-loop
 unfolding wordsOf
 loop-again c = (c .before .before .loop .inv .0, omega arith, simp length-set (c .before .before .loop .inv .2), rw (c .link-after .ensures) (fresh-turn (c .before .before .loop .cells) (c .before .before .before .before .args .n) (c .before .before .loop .i) (omega arith) ∙ c .before .before .loop .inv .3))
 
--- src/lib.rt:56:1
 same-length : tie.Need-same-length Inv-loop μ-loop
 same-length c = c .before .loop .inv .2
 
--- src/lib.rt:56:1
 returns : tie.Need-returns Inv-loop μ-loop
 returns c = sym (fresh-end (c .before .loop .cells) (c .before .before .before .args .n) (c .before .loop .i) (omega arith)) ∙ c .before .loop .inv .3
 
@@ -72,10 +52,10 @@ free-cells-spec =
     (tie.spec
     Inv-loop
     μ-loop
-    fewer-requires
+    (λ c κs. search needs)
     loop-holds
     add-link-after
-    link-after-requires
+    (λ c κs. search needs)
     mul-t11
     slice-set-from-cells
     add-i

@@ -1,3 +1,4 @@
+-- The loop's invariant: the words left, stored at i, give what the four give.
 use Rattle.fresh.specs.StoreLaws.{list-turn, list-end}
 use Rattle.rules.specs.Sizes.{metaWords}
 use mathlib.Core.List.{[], _∷_}
@@ -9,9 +10,6 @@ use mathlib.Core.Path.{_≡_, refl, sym, _∙_}
 use Prim.Native.Nat.{_+_, _-_, _≤_, min}
 use Rattle.fresh.proofs.start.Statement.{statement}
 use Rattle.fresh.proofs.start.Tie as tie
-use Rattle.fresh.proofs.start.Reads as reads
-use Rattle.fresh.proofs.start.Lts as lts
-use Rattle.fresh.proofs.fewer.Reads as fewer-reads
 
 abbrev Inv-loop : tie.InvT-loop
 Inv-loop meta₀ n r words k i₀ meta i =
@@ -21,47 +19,33 @@ Inv-loop meta₀ n r words k i₀ meta i =
 abbrev μ-loop : tie.MeasureT-loop
 μ-loop meta₀ n r words k i₀ meta i = k - i
 
--- src/lib.rt:28:9
-fewer-requires : tie.Need-fewer-requires Inv-loop μ-loop
-fewer-requires c κs = search needs
-
--- src/lib.rt:30:5
 loop-holds : tie.Need-loop-holds Inv-loop μ-loop
 loop-holds c = (c .fewer .ensures, omega arith, refl, refl)
 
--- src/lib.rt:31:19
 mul-meta : tie.Need-mul-meta Inv-loop μ-loop
 mul-meta c = omega arith
 
--- src/lib.rt:31:19
 array-read-meta : tie.Need-array-read-meta Inv-loop μ-loop
 array-read-meta c = omega arith
 
--- src/lib.rt:31:9
 mul-meta-2 : tie.Need-mul-meta-2 Inv-loop μ-loop
 mul-meta-2 c = omega arith
 
--- src/lib.rt:31:9
 slice-write-meta : tie.Need-slice-write-meta Inv-loop μ-loop
 slice-write-meta c = omega arith
 
--- src/lib.rt:32:9
 add-i : tie.Need-add-i Inv-loop μ-loop
 add-i c = omega arith
 
--- src/lib.rt:30:5
 loop-less : tie.Need-loop-less Inv-loop μ-loop
 loop-less c = omega arith
 
--- src/lib.rt:30:5
 loop-again : tie.Need-loop-again Inv-loop μ-loop
 loop-again c = (c .before .loop .inv .0, omega arith, simp length-set (c .before .loop .inv .2), list-turn (c .before .loop .meta) (c .before .before .before .before .args .r ∷ c .before .before .before .before .args .n ∷ 1 ∷ 1 ∷ []) (c .before .loop .i) 0 (omega arith) ∙ c .before .loop .inv .3)
 
--- src/lib.rt:24:1
 same-length : tie.Need-same-length Inv-loop μ-loop
 same-length c = c .before .loop .inv .2
 
--- src/lib.rt:24:1
 returns : tie.Need-returns Inv-loop μ-loop
 returns c = sym (list-end (c .before .loop .meta) (c .before .before .before .before .args .r ∷ c .before .before .before .before .args .n ∷ 1 ∷ 1 ∷ []) (c .before .loop .i) (omega arith)) ∙ c .before .loop .inv .3
 
@@ -71,7 +55,7 @@ start-spec =
     (tie.spec
     Inv-loop
     μ-loop
-    fewer-requires
+    (λ c κs. search needs)
     loop-holds
     mul-meta
     array-read-meta

@@ -1,46 +1,37 @@
+-- The eight tests of `fits` in order: each `return` is the first that fails.
 use borrow.Author.Tests.{le-leb, lt-leb}
 use Rattle.rules.specs.Outcome.{fits}
 use Rattle.gate.proofs.fits.Statement.{statement}
 use Rattle.gate.proofs.fits.Tie as tie
-use Rattle.gate.proofs.fits.Reads as reads
-use Rattle.gate.proofs.fits.Lts as lts
 
--- src/lib.rt:73:9
 returns : tie.Need-returns
 unfolding fits
 returns c = rw (lt-leb _ _ (c .if1 .taken))
 
--- src/lib.rt:76:9
 returns-2 : tie.Need-returns-2
 unfolding fits
 returns-2 c = rw (le-leb _ _ (c .before .if1 .left), lt-leb _ _ (c .if2 .taken))
 
--- src/lib.rt:79:9
 returns-3 : tie.Need-returns-3
 unfolding fits
 returns-3 c = rw (le-leb _ _ (c .before .before .if1 .left), le-leb _ _ (c .before .if2 .left), lt-leb _ _ (c .if3 .taken))
 
--- src/lib.rt:82:9
 returns-4 : tie.Need-returns-4
 unfolding fits
 returns-4 c = rw (le-leb _ _ (c .before .before .before .if1 .left), le-leb _ _ (c .before .before .if2 .left), le-leb _ _ (c .before .if3 .left), lt-leb _ _ (c .if4 .taken))
 
--- src/lib.rt:85:9
 returns-5 : tie.Need-returns-5
 unfolding fits
 returns-5 c = rw (le-leb _ _ (c .before .before .before .before .if1 .left), le-leb _ _ (c .before .before .before .if2 .left), le-leb _ _ (c .before .before .if3 .left), le-leb _ _ (c .before .if4 .left), lt-leb _ _ (c .if5 .taken))
 
--- src/lib.rt:88:9
 returns-6 : tie.Need-returns-6
 unfolding fits
 returns-6 c = rw (le-leb _ _ (c .before .before .before .before .before .if1 .left), le-leb _ _ (c .before .before .before .before .if2 .left), le-leb _ _ (c .before .before .before .if3 .left), le-leb _ _ (c .before .before .if4 .left), le-leb _ _ (c .before .if5 .left), lt-leb _ _ (c .if6 .taken))
 
--- src/lib.rt:91:9
 returns-7 : tie.Need-returns-7
 unfolding fits
 returns-7 c = rw (le-leb _ _ (c .before .before .before .before .before .before .if1 .left), le-leb _ _ (c .before .before .before .before .before .if2 .left), le-leb _ _ (c .before .before .before .before .if3 .left), le-leb _ _ (c .before .before .before .if4 .left), le-leb _ _ (c .before .before .if5 .left), le-leb _ _ (c .before .if6 .left), lt-leb _ _ (c .if7 .taken))
 
--- src/lib.rt:62:1
 returns-8 : tie.Need-returns-8
 unfolding fits
 returns-8 c = rw (le-leb _ _ (c .before .before .before .before .before .before .if1 .left), le-leb _ _ (c .before .before .before .before .before .if2 .left), le-leb _ _ (c .before .before .before .before .if3 .left), le-leb _ _ (c .before .before .before .if4 .left), le-leb _ _ (c .before .before .if5 .left), le-leb _ _ (c .before .if6 .left), le-leb _ _ (c .if7 .left))
