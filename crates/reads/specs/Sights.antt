@@ -7,7 +7,8 @@ use mathlib.Core.Path.{_≡_, refl, sym, ap, _∙_}
 use native.Mathlib.Omega.{arith}
 use lib.ListN.{length, getD}
 use lib.Dec.{leb}
-use borrow.Author.Tests.{le-leb, lt-leb}
+use Rattle.rules.specs.Theory.Cases.{byBool}
+use borrow.Author.Tests.{leb-false}
 use Rattle.rules.specs.declared.Version.{Version}
 use Rattle.rules.specs.Sizes.{Sizes, base, READS}
 use Rattle.rules.specs.Numbers.{chainTooLong, readSetFull, damaged}
@@ -63,3 +64,23 @@ module _ (n : ℕ) (f : ℕ → Version) (head : ℕ) (t : Slot) (recs : List Re
 pub records-count : (t : List ℕ) → length (slotOf base t .recs) ≡ min (getD t (READS base) 0) (base .reads)
 unfolding slotOf
 records-count t = length-threes rec t _ _
+
+-- where a record is to be added, there is room for it
+found-room : (f : ℕ → Version) (recs : List Rec) (row c : ℕ) (q : Rec) (l : List Rec) (k : Found) → sightFound f recs row k ≡ sees c (q ∷ l) → length recs < base .reads
+unfolding recordOf
+found-room f recs row c q l (Found.Own d) e = absurd (let z : _≡_ {A = ℕ} 0 1 = cc in omega arith)
+found-room f recs row c q l Found.Nothing e = absurd (let z : _≡_ {A = ℕ} 0 1 = cc in omega arith)
+found-room f recs row c q l Found.TooLong e = absurd (let z : _≡_ {A = ℕ} 0 1 = cc in omega arith)
+found-room f recs row c q l Found.Harmed e = absurd (let z : _≡_ {A = ℕ} 0 1 = cc in omega arith)
+found-room f recs row c q l (Found.Version d) e = byBool (recorded (d .0) recs)
+    (λ a. absurd (let g = rw a at e in let z : _≡_ {A = ℕ} 0 1 = cc in omega arith))
+    (λ a. byBool (leb (base .reads) (length recs))
+    (λ b. absurd (let g = rw (a, b) at e in let z : _≡_ {A = ℕ} 0 1 = cc in omega arith))
+    (λ b. leb-false (base .reads) (length recs) b))
+
+pub fresh-room : (n : ℕ) (f : ℕ → Version) (head : ℕ) (t : List ℕ) (row c : ℕ) (q : Rec) (l : List Rec)
+    → sees c (q ∷ l) ≡ readRow base n f head (slotOf base t) (slotOf base t .recs) row → getD t (READS base) 0 < base .reads
+fresh-room n f head t row c q l e =
+    let k = foundOf n (own (slotOf base t .writes) row) (look n (slotOf base t) f (base .walk) head) in
+    let r = found-room f (slotOf base t .recs) row c q l k (sym (e ∙ read-row-is n f head (slotOf base t) (slotOf base t .recs) row)) in
+    omega (arith, records-count t)
