@@ -1,1 +1,2 @@
 pub mod ReadRest
+pub mod WriteRest
