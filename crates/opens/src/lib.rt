@@ -79,7 +79,7 @@ pub fn open_slot(slot: &mut [u64; WIDTH], id: TxId, snapshot: Snapshot, ids: &[u
 }
 
 // Slot s opened for a transaction whose id was drawn: its own id is among the active ones, so it is stored before they are gathered.
-pub fn open(slots: &mut [[u64; WIDTH]], s: usize, id: u64)
+pub fn occupy(slots: &mut [[u64; WIDTH]], s: usize, id: u64)
     requires { ⌜ (s < length (now slots)) × (id < lastId) ⌝ }
     ensures { λ _. ⌜ now (slots .exit) ≡ openedAt (now (slots .entry)) s id ⌝ }
 {

@@ -5,14 +5,33 @@ use fresh::clear_slots;
 use fresh::free_cells;
 use fresh::start;
 use gate::BAD_SIZE;
+use gate::CLOCK_SPENT;
+use gate::NO_FREE_SLOT;
+use gate::check_slot;
+use gate::check_store;
 use gate::fits;
 use rules::Answer;
 use rules::CELL_WORDS;
+use rules::CLOCK;
+use rules::LAST_ID;
+use rules::ReadAnswer;
+use rules::SLOTS;
+use rules::TxId;
+use rules::Value;
+use rules::Verdict;
 use rules::WIDTH;
 ghost use mathlib.Core.Path.{_≡_};
 ghost use mathlib.Core.List.{[]};
 ghost use Rattle.rules.specs.Outcome.{out};
+ghost use Rattle.rules.specs.Sizes.{base};
+ghost use Rattle.rules.specs.Versions.{given};
+ghost use Rattle.rules.specs.Memory.{mem};
 ghost use Rattle.rules.specs.Create.{createOut};
+ghost use Rattle.rules.specs.Begin.{beginOut};
+ghost use Rattle.rules.specs.Read.{readOut};
+ghost use Rattle.rules.specs.Write.{writeOut};
+ghost use Rattle.gate.specs.FineLaws.{StoreFine};
+ghost use Rattle.store.specs.BeginLaws.{beginRest};
 ghost use Rattle.rules.specs.Lent.{memIn, memOut};
 
 // A new store of n cells and r rows: an accepted creation starts a new history.
@@ -37,4 +56,88 @@ pub fn create(
     free_cells(cells, n);
     clear_slots(slots);
     Answer::Done
+}
+
+// A slot and an id for a transaction, on a store whose sizes fit.
+fn begin_fitting(
+    meta: &mut [u64],
+    rows: &[u64],
+    cells: &[[u64; CELL_WORDS]],
+    slots: &mut [[u64; WIDTH]],
+) -> Answer
+    requires { ⌜ StoreFine (mem {z = base} (now meta) (now rows) (now cells) (now slots)) ⌝ }
+    ensures { λ a. ⌜ out a [] (memOut meta rows cells slots) ≡ beginRest (memIn meta rows cells slots) ⌝ }
+{
+    let s = slots::lowest_empty(slots);
+    if s >= SLOTS {
+        return Answer::Refused {
+            number: NO_FREE_SLOT,
+            value: 0,
+        };
+    }
+    let id = meta[CLOCK];
+    if id == LAST_ID {
+        return Answer::Refused {
+            number: CLOCK_SPENT,
+            value: 0,
+        };
+    }
+    meta[CLOCK] = id + 1;
+    opens::occupy(slots, s, id);
+    Answer::Begun {
+        slot: s as u64,
+        id: TxId(id),
+    }
+}
+
+// A new transaction: the lowest empty slot, the clock's id, the snapshot.
+pub fn begin(
+    meta: &mut [u64],
+    rows: &[u64],
+    cells: &[[u64; CELL_WORDS]],
+    slots: &mut [[u64; WIDTH]],
+) -> Answer
+    ensures { λ a. ⌜ out a [] (memOut meta rows cells slots) ≡ beginOut (memIn meta rows cells slots) ⌝ }
+{
+    match check_store(meta, rows, cells, slots) {
+        Verdict::Refused { number, value } => Answer::Refused { number, value },
+        Verdict::Fine => begin_fitting(meta, rows, cells, slots),
+    }
+}
+
+// What the transaction sees in a row: its own write, else the first visible version. A version found is recorded.
+pub fn read(
+    meta: &[u64],
+    rows: &[u64],
+    cells: &[[u64; CELL_WORDS]],
+    slots: &mut [[u64; WIDTH]],
+    slot: u64,
+    id: TxId,
+    row: u64,
+) -> ReadAnswer
+    ensures { λ a. ⌜ out a [] (memOut meta rows cells slots) ≡ readOut (memIn meta rows cells slots) slot (id .0) row ⌝ }
+{
+    match check_slot(meta, rows, cells, slots, slot, id) {
+        Verdict::Refused { number, value } => ReadAnswer::Refused { number, value },
+        Verdict::Fine => access::read(meta, rows, cells, slots, slot, id, row),
+    }
+}
+
+// A key, or none to delete, written to a row: others see it once it is committed.
+pub fn write(
+    meta: &mut [u64],
+    rows: &[u64],
+    cells: &mut [[u64; CELL_WORDS]],
+    slots: &mut [[u64; WIDTH]],
+    slot: u64,
+    id: TxId,
+    row: u64,
+    value: Value,
+) -> Answer
+    ensures { λ a. ⌜ out a [] (memOut meta rows cells slots) ≡ writeOut (memIn meta rows cells slots) slot (id .0) row (given value) ⌝ }
+{
+    match check_slot(meta, rows, cells, slots, slot, id) {
+        Verdict::Refused { number, value } => Answer::Refused { number, value },
+        Verdict::Fine => access::write(meta, rows, cells, slots, slot, id, row, value),
+    }
 }

@@ -1,9 +1,9 @@
 use Rattle.opens.specs.OpenedAt.{idsAt, opened-at}
 use borrow.Author.Needs.{needs}
-use Rattle.opens.proofs.open.Statement.{statement}
-use Rattle.opens.proofs.open.Tie as tie
-use Rattle.opens.proofs.open.Reads as reads
-use Rattle.opens.proofs.open.Lts as lts
+use Rattle.opens.proofs.occupy.Statement.{statement}
+use Rattle.opens.proofs.occupy.Tie as tie
+use Rattle.opens.proofs.occupy.Reads as reads
+use Rattle.opens.proofs.occupy.Lts as lts
 use Rattle.opens.proofs.gather.Reads as gather-reads
 use Rattle.opens.proofs.open_slot.Reads as open-slot-reads
 use Rattle.slots.proofs.snapshot_of.Reads as snapshot-of-reads
@@ -61,8 +61,8 @@ returns : tie.Need-returns
 unfolding idsAt
 returns c = rw (c .open-slot .ensures) (opened-at (c .before .before .before .before .before .before .before .before .before .args .slots .now) (c .before .before .before .before .before .before .before .before .before .args .s) (c .before .before .before .before .before .before .before .before .before .args .id) _ _ _ (c .before .before .before .before .before .before .before .before .before .pre .0) (c .before .before .before .before .before .before .before .snapshot-of .ensures .0) (c .before .before .before .before .before .before .before .snapshot-of .ensures .1) (c .before .before .before .before .gather .ensures .all))
 
-pub open-spec : {M : Type 1} → statement M
-open-spec =
+pub occupy-spec : {M : Type 1} → statement M
+occupy-spec =
     tie.close
     (tie.spec
     mul-slots
