@@ -32,3 +32,4 @@ pub mod ReadCall
 pub mod LookupCall
 pub mod VacuumCall
 pub mod CreateCall
+pub mod Steps
