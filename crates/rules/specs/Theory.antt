@@ -22,6 +22,7 @@ pub mod Chains
 pub mod Reading
 pub mod Guard
 pub mod Same
+pub mod Refusals
 pub mod Good
 pub mod BeginCall
 pub mod CommitCall
@@ -33,3 +34,4 @@ pub mod LookupCall
 pub mod VacuumCall
 pub mod CreateCall
 pub mod Steps
+pub mod Never

@@ -1,7 +1,8 @@
 -- Tests in a row: a call is refused by the first that fails, and is done where all pass.
-use mathlib.Core.Bool.{false}
+use mathlib.Core.Bool.{false, true, true≢false}
 use mathlib.Core.List.{List, [], _∷_, _++_}
-use mathlib.Core.Path.{_≡_, refl}
+use mathlib.Core.Logic.{_≢_}
+use mathlib.Core.Path.{_≡_, refl, sym, _∙_}
 use Prim.Native.Nat.{ℕ}
 use Rattle.rules.specs.Outcome.{Test, guard, each}
 use Rattle.rules.specs.Theory.Cases.{byBool}
@@ -33,3 +34,28 @@ pub passed-each : {A : Type 0} (f : A → List Test) (l : List A) → All (λ a.
 unfolding each
 passed-each f [] h = tt
 passed-each f (a ∷ l) h = passed-join (f a) (each f l) (h .0) (passed-each f l (h .1))
+
+-- no test that fails has number k, as far as the tests before it pass
+abbrev pub Safe : ℕ → List Test → Type 0
+Safe k [] = Unit {0}
+Safe k (t ∷ l) = (t .fails ≡ true → t .number ≢ k) × (t .fails ≡ false → Safe k l)
+
+pub guard-safe : {A : Type 0} (num : A → ℕ) (r : ℕ → ℕ → A) (k : ℕ) → ((n x : ℕ) → num (r n x) ≡ n) → (l : List Test) (a : A) → Safe k l → (Passed l → num a ≢ k) → num (guard r l a) ≢ k
+unfolding guard
+guard-safe num r k e [] a s f = f tt
+guard-safe num r k e (t ∷ l) a s f = byBool (t .fails)
+    (λ q. rw q (λ z. s .0 q (sym (e (t .number) (t .value)) ∙ z)))
+    (λ q. rw q (guard-safe num r k e l a (s .1 q) (λ p. f (q, p))))
+
+pub safe-append : (k : ℕ) (a b : List Test) → Safe k a → (Passed a → Safe k b) → Safe k (a ++ b)
+safe-append k [] b s f = f tt
+safe-append k (t ∷ a) b s f = (s .0, λ q. safe-append k a b (s .1 q) (λ p. f (q, p)))
+
+pub safe-passed : (k : ℕ) (l : List Test) → Passed l → Safe k l
+safe-passed k [] p = tt
+safe-passed k (t ∷ l) p = ((λ q. absurd (true≢false (sym q ∙ p .0))), λ _. safe-passed k l (p .1))
+
+pub safe-each : {A : Type 0} (k : ℕ) (f : A → List Test) (l : List A) → All (λ a. Safe k (f a)) l → Safe k (each f l)
+unfolding each
+safe-each k f [] s = tt
+safe-each k f (a ∷ l) s = safe-append k (f a) (each f l) (s .0) (λ _. safe-each k f l (s .1))
