@@ -19,4 +19,5 @@ pub mod Lookup
 pub mod Run
 pub mod WholeRun
 pub mod History
+pub mod Reachable
 pub mod Theory

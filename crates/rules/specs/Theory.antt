@@ -35,3 +35,4 @@ pub mod VacuumCall
 pub mod CreateCall
 pub mod Steps
 pub mod Never
+pub mod ReadLaw

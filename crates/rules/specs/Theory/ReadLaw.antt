@@ -1,0 +1,116 @@
+-- A read on a store of which all holds, in the words of the memory and of the log.
+use mathlib.Core.Bool.{not}
+use mathlib.Core.List.{_∷_, [], _++_}
+use mathlib.Core.Logic.{_≢_}
+use mathlib.Core.Option.{Option, none}
+use mathlib.Core.Path.{_≡_, refl, sym, ap, _∙_, subst}
+use Prim.Native.Nat.{ℕ, _<_, _≤_}
+use native.Mathlib.Omega.{arith}
+use lib.ListN.{getD, take, length}
+use borrow.Author.Tests.{not-false, lt-leb}
+use Rattle.rules.specs.declared.Answer.{Answer}
+use Rattle.rules.specs.declared.Answer.the-variants.{Done}
+use Rattle.rules.specs.declared.ReadAnswer.{ReadAnswer}
+use Rattle.rules.specs.Sizes.{Sizes, Roomy}
+use Rattle.rules.specs.Numbers.{badSize, chainTooLong, readSetFull}
+use Rattle.rules.specs.Lists.{first}
+use Rattle.rules.specs.Versions.{at, versionAt}
+use Rattle.rules.specs.Slots.{Slot}
+use Rattle.rules.specs.Memory.{Mem, slotAt, wordsAt, sizeR}
+use Rattle.rules.specs.Chain.{Chain}
+use Rattle.rules.specs.Outcome.{Outcome, refuse, test, fits, slotTests, rowTest, refuseRead}
+use Rattle.rules.specs.Create.{createOut}
+use Rattle.rules.specs.Read.{Sight, readEnd, readOut, readAt}
+use Rattle.rules.specs.History.{made, Log, whoIn, rowsIn, cellsIn, ownIn, answerOf, valueIn}
+use Rattle.rules.specs.Reachable.{Reachable, chainAt, seesAt, walkedAt, TooLong, ReadSetFull}
+use Rattle.rules.specs.Theory.SlotLaws.{recs-length}
+use Rattle.rules.specs.Theory.View.{viewOf, get-slots}
+use Rattle.rules.specs.Theory.Effects.{slotV}
+use Rattle.rules.specs.Theory.Inv.{vers}
+use Rattle.rules.specs.Theory.Reading.{Beyond, full, Full, pickCell, pick-visible, long, Right, right}
+use Rattle.rules.specs.Theory.Guard.{guardCase, Passed, passed-join, guard-passed}
+use Rattle.rules.specs.Theory.Good.{Owner}
+use Rattle.rules.specs.Theory.VacuumCall.{row-chain}
+use Rattle.rules.specs.Theory.Steps.{Sound, create-starts, run-sound, histOf}
+use Rattle.rules.specs.Theory.Never.{open-slot, slot-passed, right-at}
+
+module _ {z : Sizes} where
+  guard-done : (m : Mem z) (n r : ℕ) → createOut m n r .answer ≡ Done → Roomy z → Sound (createOut m n r .after) (made n r ∷ [])
+  unfolding createOut
+  guard-done m n r e rm = go e
+    where
+      go : createOut m n r .answer ≡ Done → Sound (createOut m n r .after) (made n r ∷ [])
+      go = guardCase (λ (o : Outcome z Answer ℕ). o .answer ≡ Done → Sound (o .after) (made n r ∷ [])) (refuse m) (test (not (fits m r n)) badSize 0 ∷ []) _
+          (λ k x q. let y : _≡_ {A = ℕ} 0 1 = cc in absurd (omega arith))
+          (λ p _. create-starts rm m n r (not-false _ (p .0)))
+
+  pub reachable-sound : Roomy z → (m : Mem z) (l : Log) → Reachable m l → Sound m l
+  reachable-sound rm m l rc =
+      let s = run-sound (rc .calls) (createOut (rc .lent) (rc .n) (rc .r) .after) (made (rc .n) (rc .r) ∷ []) (guard-done (rc .lent) (rc .n) (rc .r) (rc .accepted) rm) in
+      rw (rc .memory, rc .log) at s
+
+module _ {z : Sizes} (m : Mem z) (l : Log) (gd : Sound m l) (s row : ℕ) (op : whoIn l s ≢ 0) (inR : row < rowsIn l) where
+  abbrev o : Owner m s (whoIn l s)
+  o = open-slot (rowsIn l) (cellsIn l) m (histOf l) gd s (whoIn l s) op refl
+
+  at-slot : slotV (viewOf m) s ≡ slotAt m s
+  at-slot = get-slots z (m .slots) s (o .slot)
+
+  at-row : getD (gd .ghost .rows) row [] ≡ chainAt m row .cells
+  at-row = sym (ap (λ (c : Chain). c .cells) (row-chain (rowsIn l) (cellsIn l) m (histOf l) gd row inR))
+
+  abbrev beyond : Type 0
+  beyond = Beyond (z .walk) (slotV (viewOf m) s) (vers (viewOf m)) (getD (gd .ghost .rows) row [])
+
+  abbrev fullSet : Type 0
+  fullSet = Full z (slotV (viewOf m) s) (vers (viewOf m)) (getD (gd .ghost .rows) row []) (slotV (viewOf m) s .recs)
+
+  abbrev looks : Option ℕ
+  looks = pickCell (slotV (viewOf m) s) (vers (viewOf m)) (take (z .walk) (getD (gd .ghost .rows) row []))
+
+  -- the walk in the two languages
+  walk-is : first (seesAt m s) (walkedAt m row) ≡ looks
+  walk-is = pick-visible (slotAt m s) (versionAt (m .cells)) (walkedAt m row) ∙ sym (rw (at-slot, at-row))
+
+  to-long : ownIn l s row ≡ none → beyond → TooLong m l s row
+  to-long e b = record { noOwn = e; longer = rw at-row at (b .0); unseen = walk-is ∙ b .1 }
+
+  from-long : TooLong m l s row → beyond
+  from-long a = (rw at-row (a .longer), sym walk-is ∙ a .unseen)
+
+  few : length (slotAt m s .recs) ≤ z .reads
+  few = rw (recs-length (wordsAt m s) (gd .shaped .slots .each s (o .slot))) (gd .shaped .slots .each s (o .slot) .reads)
+
+  to-full : ownIn l s row ≡ none → fullSet → ReadSetFull m l s row
+  to-full e b = record {
+    noOwn = e;
+    cell = b .0;
+    finds = walk-is ∙ b .1;
+    unrecorded = rw at-slot at (b .2);
+    most = let ge : z .reads ≤ length (slotAt m s .recs) = rw at-slot at (b .3) in omega (arith, few);
+  }
+
+  from-full : ReadSetFull m l s row → fullSet
+  from-full a = (a .cell, sym walk-is ∙ a .finds, rw at-slot (a .unrecorded), rw at-slot (omega (arith, a .most)))
+
+  -- a read's answer, each case exactly when
+  pub data ReadIs : ReadAnswer → Type 0 where
+    is-told : (a : ReadAnswer) → a ≡ answerOf (valueIn l s row) → (TooLong m l s row → ⊥) → (ReadSetFull m l s row → ⊥) → ReadIs a
+    is-long : TooLong m l s row → ReadIs (ReadAnswer.Refused chainTooLong row)
+    is-full : ReadSetFull m l s row → ReadIs (ReadAnswer.Refused readSetFull row)
+
+  sight-is : (g : Sight) → Right z (viewOf m) (gd .ghost) (histOf l) s row (slotV (viewOf m) s .recs) g → ReadIs (readEnd m s g .answer)
+  unfolding readEnd
+  sight-is _ (right c q e nl nf) = is-told _ e (λ a. nl (a .noOwn) (from-long a)) (λ a. nf (a .noOwn) (from-full a))
+  sight-is _ (long e b) = is-long (to-long e b)
+  sight-is _ (full e b) = is-full (to-full e b)
+
+  pub read-is : ReadIs (readOut m s (whoIn l s) row .answer)
+  unfolding readOut
+  read-is =
+      let id = whoIn l s in
+      let ts = slotTests m s id ++ rowTest m row ∷ [] in
+      let p : Passed ts = passed-join (slotTests m s id) (rowTest m row ∷ []) (slot-passed (rowsIn l) (cellsIn l) m (histOf l) gd s id o) (lt-leb (sizeR m) row (rw (gd .rows) inR), tt) in
+      let a = right-at (rowsIn l) (cellsIn l) m (histOf l) gd s id row (slotV (viewOf m) s .recs) o inR in
+      rw (guard-passed (refuseRead m) ts (readEnd m s (readAt m (slotAt m s) (slotAt m s .recs) row)) p)
+      (subst (λ (t : Slot). ReadIs (readEnd m s (readAt m t (t .recs) row) .answer)) at-slot (sight-is _ a))
