@@ -1,20 +1,22 @@
 -- Reachable stores: what an accepted creation and any calls after it lead to, whatever memory was lent. And the parts of a memory that
 -- the theorems on reachable stores speak of.
-use mathlib.Core.Bool.{Bool, false}
-use mathlib.Core.List.{List, _∷_, []}
+use mathlib.Core.Bool.{Bool, false, cond}
+use mathlib.Core.List.{List, _∷_, [], _++_}
 use mathlib.Core.Option.{none, some}
 use mathlib.Core.Path.{_≡_}
-use Prim.Native.Nat.{ℕ, _<_}
+use Prim.Native.Nat.{ℕ, _<_, suc}
+use lib.Dec.{eqb}
 use lib.ListN.{take, length}
 use Rattle.rules.specs.declared.Answer.the-variants.{Done}
 use Rattle.rules.specs.Sizes.{Sizes}
-use Rattle.rules.specs.Lists.{first}
+use Rattle.rules.specs.Lists.{first, from}
 use Rattle.rules.specs.Versions.{versionAt, withNext, emptyVersion, linkAt}
-use Rattle.rules.specs.Memory.{Mem, sizeN, headAt, free, slotAt}
+use Rattle.rules.specs.Memory.{Mem, sizeN, headAt, free, slotAt, sizeR}
 use Rattle.rules.specs.Visible.{visible}
 use Rattle.rules.specs.Chain.{chain, Chain}
 use Rattle.rules.specs.Create.{createOut}
 use Rattle.rules.specs.Read.{recorded}
+use Rattle.rules.specs.Abort.{news}
 use Rattle.rules.specs.Run.{Call, run}
 use Rattle.rules.specs.History.{Log, logOf, made, ownIn}
 
@@ -58,3 +60,17 @@ module _ {z : Sizes} where
     pub finds : first (seesAt m s) (walkedAt m row) ≡ some cell
     pub unrecorded : recorded cell (slotAt m s .recs) ≡ false
     pub most : length (slotAt m s .recs) ≡ z .reads
+
+-- one list after the other
+unfoldable pub joined : (ℕ → List ℕ) → List ℕ → List ℕ
+joined f [] = []
+joined f (a ∷ l) = f a ++ joined f l
+
+-- every place where a cell can stand: the free list, the chains of rows 0 to R - 1, the write sets of all slots
+abbrev pub everywhere : {z : Sizes} → Mem z → List ℕ
+everywhere {z} m = freeAt m .cells ++ (joined (λ r. chainAt m r .cells) (from 0 (sizeR m)) ++ joined (λ s. news (slotAt m s .writes)) (from 0 (z .slots)))
+
+-- how many times x stands in a list
+unfoldable pub times : ℕ → List ℕ → ℕ
+times x [] = 0
+times x (y ∷ l) = cond (eqb x y) (suc (times x l)) (times x l)

@@ -36,3 +36,4 @@ pub mod CreateCall
 pub mod Steps
 pub mod Never
 pub mod ReadLaw
+pub mod OnePlace
