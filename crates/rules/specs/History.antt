@@ -1,7 +1,8 @@
 -- The history of a store: a log of what was accepted, newest first, told by the calls and their replies alone; and what the log says.
-use mathlib.Core.Bool.{cond, _&&_}
+use mathlib.Core.Bool.{cond, _&&_, Bool, false, true}
 use mathlib.Core.List.{List, [], _∷_, _++_}
 use mathlib.Core.Option.{Option, none, some}
+use mathlib.Core.Path.{_≡_}
 use Prim.Native.Nat.{ℕ}
 use lib.Dec.{eqb}
 use Rattle.rules.specs.declared.Answer.{Answer}
@@ -162,3 +163,23 @@ unfoldable pub logOf : List Call → List Reply → Log → Log
 logOf [] rs l = l
 logOf (c ∷ cs) [] l = l
 logOf (c ∷ cs) (r ∷ rs) l = logOf cs rs (logged c r l)
+
+-- an accepted creation
+unfoldable pub restarts : Call → Reply → Bool
+restarts c (looked a) = false
+restarts c (swept a reports) = false
+restarts (create n r) (gave a rows) = ifDone a true false
+restarts begin (gave a rows) = false
+restarts (read s id row) (gave a rows) = false
+restarts (write s id row v) (gave a rows) = false
+restarts (commit s id) (gave a rows) = false
+restarts (abort s id) (gave a rows) = false
+restarts (vacuum row request room) (gave a rows) = false
+restarts (lookup s id key cands room) (gave a rows) = false
+restarts (lookupAll s id key room) (gave a rows) = false
+
+-- calls and replies that go on with one history
+abbrev pub GoesOn : List Call → List Reply → Type 0
+GoesOn [] rs = Unit {0}
+GoesOn (c ∷ cs) [] = Unit {0}
+GoesOn (c ∷ cs) (r ∷ rs) = (restarts c r ≡ false) × GoesOn cs rs

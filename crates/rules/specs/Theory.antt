@@ -37,3 +37,5 @@ pub mod Steps
 pub mod Never
 pub mod ReadLaw
 pub mod OnePlace
+pub mod Clock
+pub mod Continuing

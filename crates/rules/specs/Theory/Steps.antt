@@ -83,12 +83,12 @@ module _ {z : Sizes} (R N : ℕ) (m : Mem z) (l : Log) where
 -- ---- a commit's events: of the rest of what the log says they change only the last commits
 
 module _ (k : Log) where
-  commits-who : (l : List (ℕ × Val)) (i : ℕ) → whoIn (commits l ++ k) i ≡ whoIn k i
+  pub commits-who : (l : List (ℕ × Val)) (i : ℕ) → whoIn (commits l ++ k) i ≡ whoIn k i
   unfolding whoIn commits
   commits-who [] i = refl
   commits-who (w ∷ l) i = commits-who l i
 
-  commits-view : (l : List (ℕ × Val)) (i r : ℕ) → viewIn (commits l ++ k) i r ≡ viewIn k i r
+  pub commits-view : (l : List (ℕ × Val)) (i r : ℕ) → viewIn (commits l ++ k) i r ≡ viewIn k i r
   unfolding viewIn commits
   commits-view [] i r = refl
   commits-view (w ∷ l) i r = commits-view l i r
@@ -98,7 +98,7 @@ module _ (k : Log) where
   commits-own [] i r = refl
   commits-own (w ∷ l) i r = commits-own l i r
 
-  commits-sizes : (l : List (ℕ × Val)) → (rowsIn (commits l ++ k) ≡ rowsIn k) × (cellsIn (commits l ++ k) ≡ cellsIn k)
+  pub commits-sizes : (l : List (ℕ × Val)) → (rowsIn (commits l ++ k) ≡ rowsIn k) × (cellsIn (commits l ++ k) ≡ cellsIn k)
   unfolding rowsIn cellsIn commits
   commits-sizes [] = (refl, refl)
   commits-sizes (w ∷ l) = commits-sizes l
