@@ -21,3 +21,4 @@ pub mod WholeRun
 pub mod History
 pub mod Reachable
 pub mod Theory
+pub mod Demand3
