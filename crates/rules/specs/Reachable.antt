@@ -1,16 +1,18 @@
 -- Reachable stores: what an accepted creation and any calls after it lead to, whatever memory was lent. And the parts of a memory that
 -- the theorems on reachable stores speak of.
-use mathlib.Core.Bool.{Bool, false, cond}
+use mathlib.Core.Bool.{Bool, false, cond, true}
 use mathlib.Core.List.{List, _∷_, [], _++_}
+use mathlib.Core.Logic.{_≢_}
 use mathlib.Core.Option.{none, some}
 use mathlib.Core.Path.{_≡_}
-use Prim.Native.Nat.{ℕ, _<_, suc}
+use Prim.Native.Nat.{ℕ, _<_, suc, _≤_}
 use lib.Dec.{eqb}
 use lib.ListN.{take, length}
 use Rattle.rules.specs.declared.Answer.the-variants.{Done}
 use Rattle.rules.specs.Sizes.{Sizes}
-use Rattle.rules.specs.Lists.{first, from}
+use Rattle.rules.specs.Lists.{first, from, has}
 use Rattle.rules.specs.Versions.{versionAt, withNext, emptyVersion, linkAt}
+use Rattle.rules.specs.Slots.{Rec, Write, Slot}
 use Rattle.rules.specs.Memory.{Mem, sizeN, headAt, free, slotAt, sizeR}
 use Rattle.rules.specs.Visible.{visible}
 use Rattle.rules.specs.Chain.{chain, Chain}
@@ -18,7 +20,7 @@ use Rattle.rules.specs.Create.{createOut}
 use Rattle.rules.specs.Read.{recorded}
 use Rattle.rules.specs.Abort.{news}
 use Rattle.rules.specs.Run.{Call, run}
-use Rattle.rules.specs.History.{Log, logOf, made, ownIn}
+use Rattle.rules.specs.History.{Log, logOf, made, ownIn, whoIn}
 
 -- m and its log l: calls with any arguments, refused ones and further creations among them, after an accepted creation
 pub record Reachable {z : Sizes} (m : Mem z) (l : Log) : Type 0 where
@@ -74,3 +76,57 @@ everywhere {z} m = freeAt m .cells ++ (joined (λ r. chainAt m r .cells) (from 0
 unfoldable pub times : ℕ → List ℕ → ℕ
 times x [] = 0
 times x (y ∷ l) = cond (eqb x y) (suc (times x l)) (times x l)
+
+-- a chain behind its head
+abbrev pub behind : List ℕ → List ℕ
+behind [] = []
+behind (c ∷ l) = l
+
+-- the rows of records
+abbrev pub rowsRead : List Rec → List ℕ
+rowsRead [] = []
+rowsRead (q ∷ l) = q .row ∷ rowsRead l
+
+-- the bases of a write set
+abbrev pub basesOf : List Write → List ℕ
+basesOf [] = []
+basesOf (w ∷ l) = w .base ∷ basesOf l
+
+-- P of every member
+abbrev pub All : {A : Type 0} → (A → Type 0) → List A → Type 0
+All P [] = Unit {0}
+All P (q ∷ l) = P q × All P l
+
+-- a snapshot in order: xmin is the least of the active ids, the own id is among them, xmax is above them all and at most the clock
+pub record InOrder (t : Slot) (now : ℕ) : Type 0 where
+  pub self : has (t .id) (t .active) ≡ true
+  pub among : has (t .low) (t .active) ≡ true
+  pub least : All (λ x. t .low ≤ x) (t .active)
+  pub above : All (λ x. x < t .top) (t .active)
+  pub early : t .top ≤ now
+
+module _ {z : Sizes} (m : Mem z) where
+  -- the base of w is its row's head, locked for id
+  pub record LockedFor (id : ℕ) (w : Write) : Type 0 where
+    pub head : headAt m (w .row) ≡ w .base
+    pub flag : versionAt (m .cells) (w .base) .locked ≢ 0
+    pub owner : versionAt (m .cells) (w .base) .owner .0 ≡ id
+
+  -- c is the base of a write of an open slot
+  pub record BaseOf (l : Log) (c : ℕ) : Type 0 where
+    pub slot : ℕ
+    pub taken : whoIn l slot ≢ 0
+    pub among : times c (basesOf (slotAt m slot .writes)) ≢ 0
+
+  -- a record is true still: its cell stands in its row's chain, with the xmin that was read, and the reader sees it
+  pub record TrueStill (s : ℕ) (q : Rec) : Type 0 where
+    pub placed : times (q .cell) (chainAt m (q .row) .cells) ≡ 1
+    pub xmin : versionAt (m .cells) (q .cell) .xmin .0 ≡ q .xmin
+    pub seen : seesAt m s (q .cell) ≡ true
+
+  -- a write of the slot to a row that had no version when it was written, and has one now
+  pub record Overtaken (s row : ℕ) : Type 0 where
+    pub entry : Write
+    pub row-is : entry .row ≡ row
+    pub base : entry .base ≡ 0
+    pub head : headAt m row ≢ 0

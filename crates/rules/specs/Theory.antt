@@ -39,3 +39,4 @@ pub mod ReadLaw
 pub mod OnePlace
 pub mod Clock
 pub mod Continuing
+pub mod Facts

@@ -13,6 +13,7 @@ use Rattle.rules.specs.Slots.{Slot, Write, Rec}
 use Rattle.rules.specs.Visible.{creatorVisible, visible}
 use Rattle.rules.specs.Abort.{news}
 use Rattle.rules.specs.History.{Val, said}
+use Rattle.rules.specs.Reachable.{All}
 use Rattle.rules.specs.Theory.View.{View, emptySlot}
 use Rattle.rules.specs.Theory.Effects.{slotV}
 use Rattle.rules.specs.Theory.Counting.{cnt, cnt-head, cnt-tail, bit, sum}
@@ -126,11 +127,6 @@ Single t f (c ∷ l) = (vis t (f c) ≡ true → (d : ℕ) → cnt d l ≢ 0 →
 abbrev pub Entries : (ℕ → Ver) → ℕ → ℕ → List Write → Type 0
 Entries f R t [] = Unit {0}
 Entries f R t (w ∷ l) = (w .row < R) × (f (w .new) .xmin ≡ t) × (f (w .new) .xmax ≡ 0) × (ownFind f l (w .row) ≡ none) × Entries f R t l
-
--- P of every member
-abbrev pub All : {A : Type 0} → (A → Type 0) → List A → Type 0
-All P [] = Unit {0}
-All P (q ∷ l) = P q × All P l
 
 pub all-map : {A : Type 0} (P Q : A → Type 0) (l : List A) → ((q : A) → P q → Q q) → All P l → All Q l
 all-map P Q [] f a = tt

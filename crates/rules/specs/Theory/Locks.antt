@@ -14,20 +14,17 @@ use Rattle.rules.specs.declared.Version.{Version}
 use Rattle.rules.specs.Lists.{fold, nonzero}
 use Rattle.rules.specs.Versions.{at, emptyVersion, withNext, withLock, withXmax, newVersion}
 use Rattle.rules.specs.Slots.{Write, write, Slot}
+use Rattle.rules.specs.Reachable.{basesOf, All}
 use Rattle.rules.specs.Theory.Cases.{byEq, byBool, and-true}
 use Rattle.rules.specs.Theory.SlotLaws.{withWrite}
 use Rattle.rules.specs.Theory.View.{View, emptySlot, upd-same, upd, upd-other}
 use Rattle.rules.specs.Theory.Effects.{slotV, withVers, giveV, giveAllV, publishV, publishAllV, putSlot, unlockV, lockV, unlockOneV, prepareV}
 use Rattle.rules.specs.Theory.Counting.{cnt, cnt-tail, cnt-head, cnt-other}
-use Rattle.rules.specs.Theory.Inv.{vers, All, Ver, all-map, Ghost, Hist, Inv, Entries}
+use Rattle.rules.specs.Theory.Inv.{vers, Ver, all-map, Ghost, Hist, Inv, Entries}
 use Rattle.rules.specs.Theory.Places.{free-alone, spelled-first, head-among}
 use Rattle.rules.specs.Theory.SlotSteps.{open-in}
 use Rattle.rules.specs.Theory.Publish.{part-same, part-off, part-on}
 use Rattle.rules.specs.Theory.CommitView.{Tested}
-
-abbrev pub basesOf : List Write → List ℕ
-basesOf [] = []
-basesOf (w ∷ l) = w .base ∷ basesOf l
 
 -- the base of w is its row's head, locked for id
 pub record HeldFor (st : View) (id : ℕ) (w : Write) : Type 0 where

@@ -15,10 +15,11 @@ use Rattle.rules.specs.Memory.{Mem, headAt, slotAt, sizeR}
 use Rattle.rules.specs.Outcome.{Test, Outcome, refuse, slotTests, each}
 use Rattle.rules.specs.Read.{Sight, blocked, sees, answerAt, readRow}
 use Rattle.rules.specs.Lookup.{Found, stopped, got, listRow, isKey, find, findRow, lookupEnd, rowsToRead, ownRows, lookupAllOut, lookupOut, candidateTests}
+use Rattle.rules.specs.Reachable.{All}
 use Rattle.rules.specs.Theory.Cases.{byBool}
 use Rattle.rules.specs.Theory.View.{viewOf, get-slots}
 use Rattle.rules.specs.Theory.Effects.{slotV}
-use Rattle.rules.specs.Theory.Inv.{All, Hist}
+use Rattle.rules.specs.Theory.Inv.{Hist}
 use Rattle.rules.specs.Theory.Guard.{guardCase, passed-split}
 use Rattle.rules.specs.Theory.Good.{Good, Owner, view-open, owner}
 use Rattle.rules.specs.Theory.Recording.{Rightly, Noted, noted}

@@ -29,11 +29,12 @@ use Rattle.rules.specs.Abort.{news, abortOut, abortTests}
 use Rattle.rules.specs.Vacuum.{vacuumNow, swept, vacuumOut}
 use Rattle.rules.specs.Lookup.{Found, stopped, got, listRow, isKey, find, findRow, lookupEnd, ownRowTests, ownRows, candidateTests, lookupOut, lookupAllOut}
 use Rattle.rules.specs.Run.{write, read, begin, commit, abort, vacuum, lookup, lookupAll, create, Call, replyNumber, step}
+use Rattle.rules.specs.Reachable.{All}
 use Rattle.rules.specs.Theory.Cases.{byEq, byBool}
 use Rattle.rules.specs.Theory.View.{viewOf, get-slots}
 use Rattle.rules.specs.Theory.Effects.{slotV}
 use Rattle.rules.specs.Theory.Counting.{cnt, cnt-head, cnt-tail}
-use Rattle.rules.specs.Theory.Inv.{Hist, Open, Ver, Entries, All, inSlot, vers, all-map}
+use Rattle.rules.specs.Theory.Inv.{Hist, Open, Ver, Entries, inSlot, vers, all-map}
 use Rattle.rules.specs.Theory.Places.{chain-cell, head-among, free-alone, spelled-first, own-cell}
 use Rattle.rules.specs.Theory.SlotSteps.{open-in}
 use Rattle.rules.specs.Theory.Locks.{Holds}

@@ -1,5 +1,5 @@
 -- The records that a read adds are right: their cells stand in their rows' chains and are seen; one record a row; within the limit.
-use mathlib.Core.Bool.{true, false, false≢true}
+use mathlib.Core.Bool.{true, false≢true, false}
 use mathlib.Core.List.{List, _++_, [], _∷_, append-nil}
 use mathlib.Core.Logic.{_≢_}
 use mathlib.Core.Option.{Option, none, some}
@@ -14,11 +14,12 @@ use Rattle.rules.specs.Slots.{Rec, Slot, Write}
 use Rattle.rules.specs.Chain.{Look}
 use Rattle.rules.specs.Outcome.{isCell}
 use Rattle.rules.specs.Read.{recorded, Sight, blocked, sees, sightOf, own, ownSight, readRow}
+use Rattle.rules.specs.Reachable.{All}
 use Rattle.rules.specs.Theory.Cases.{byEq, or-false, byBool}
 use Rattle.rules.specs.Theory.View.{View}
 use Rattle.rules.specs.Theory.Effects.{slotV}
 use Rattle.rules.specs.Theory.Counting.{cnt, cnt-other}
-use Rattle.rules.specs.Theory.Inv.{All, Apart, Ver, Single, vis, Recorded, Ghost, vers, Hist, Inv, verOf}
+use Rattle.rules.specs.Theory.Inv.{Apart, Ver, Single, vis, Recorded, Ghost, vers, Hist, Inv, verOf}
 use Rattle.rules.specs.Theory.Chains.{row-below}
 use Rattle.rules.specs.Theory.Reading.{Looks, too-far, at-end, at-cell, look-pick}
 
