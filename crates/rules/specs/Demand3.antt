@@ -1,30 +1,43 @@
 -- Demand 3: every reader, any history. Each theorem is of every reachable store: any lent memory, an accepted creation, any calls
 -- after it (Reachable.antt), with the log of those calls and their replies (History.antt). The functions are those that the public
 -- contracts cite, at any sizes z whose slots are wide enough.
-use mathlib.Core.List.{List}
+use mathlib.Core.Bool.{true, false}
+use mathlib.Core.List.{List, []}
 use mathlib.Core.Logic.{_≢_, _⊎_, inl, inr}
 use mathlib.Core.Option.{Option, none, some}
 use mathlib.Core.Path.{_≡_, refl, sym, _∙_, ap, subst}
 use Prim.Native.Nat.{ℕ, _<_, _≤_, suc}
 use native.Mathlib.Omega.{arith}
+use Rattle.rules.specs.declared.Answer.{Answer}
 use Rattle.rules.specs.declared.ReadAnswer.{ReadAnswer}
 use Rattle.rules.specs.Sizes.{Sizes, Roomy}
 use Rattle.rules.specs.Numbers.{readNumber}
 use Rattle.rules.specs.Lists.{orElse}
-use Rattle.rules.specs.Memory.{Mem, clock}
+use Rattle.rules.specs.Versions.{versionAt}
+use Rattle.rules.specs.Slots.{Slot}
+use Rattle.rules.specs.Memory.{Mem, clock, sizeR, sizeN, slotAt, headAt}
 use Rattle.rules.specs.Chain.{ends, Chain}
+use Rattle.rules.specs.Snapshot.{horizon}
 use Rattle.rules.specs.Read.{readOut}
+use Rattle.rules.specs.Commit.{commitOut}
+use Rattle.rules.specs.Vacuum.{reclaimable}
+use Rattle.rules.specs.Lookup.{ownRows}
 use Rattle.rules.specs.Run.{Call, run, replyNumber, step}
 use Rattle.rules.specs.History.{Log, whoIn, rowsIn, answerOf, valueIn, Val, keyAnswer, GoesOn, logOf, viewIn, ownIn, cellsIn}
-use Rattle.rules.specs.Reachable.{Reachable, TooLong, ReadSetFull, times, everywhere, freeAt, chainAt}
+use Rattle.rules.specs.Reachable.{Reachable, TooLong, ReadSetFull, times, everywhere, freeAt, chainAt, InOrder, behind, All, LockedFor, BaseOf, rowsRead, TrueStill, seesAt, Overtaken}
+use Rattle.rules.specs.Theory.View.{get-slots, viewOf}
 use Rattle.rules.specs.Theory.Places.{inb-zero}
+use Rattle.rules.specs.Theory.SlotSteps.{ids-differ}
 use Rattle.rules.specs.Theory.Reading.{none-some}
+use Rattle.rules.specs.Theory.Good.{Owner}
 use Rattle.rules.specs.Theory.VacuumCall.{row-chain}
 use Rattle.rules.specs.Theory.Steps.{Sound, run-sound, histOf}
-use Rattle.rules.specs.Theory.Never.{never-damaged}
+use Rattle.rules.specs.Theory.Never.{never-damaged, open-slot}
 use Rattle.rules.specs.Theory.ReadLaw.{reachable-sound, ReadIs, is-told, is-long, is-full, read-is}
 use Rattle.rules.specs.Theory.OnePlace.{once-everywhere, inb-one, inb-none, free-chain}
 use Rattle.rules.specs.Theory.Continuing.{Bound, run-bound}
+use Rattle.rules.specs.Theory.Facts.{id-past, snapshot-order, head-live, later-superseded, bases-locked, locked-based, one-entry, one-record, records-true, reclaimed-unseen}
+use Rattle.rules.specs.Theory.CommitRefused.{commit-eight}
 
 module _ {z : Sizes} (rm : Roomy z) (m : Mem z) (l : Log) (rc : Reachable m l) where
   abbrev so : Sound m l
@@ -142,3 +155,62 @@ module _ {z : Sizes} (rm : Roomy z) (m : Mem z) (l : Log) (rc : Reachable m l) w
   -- no call, with any arguments, answers 15
   pub reachable-store-never-answers-15 : (c : Call) → replyNumber (step c m .reply) ≢ 15
   reachable-store-never-answers-15 c = never-damaged (rowsIn l) (cellsIn l) m (histOf l) so c
+
+  abbrev owns : (s : ℕ) → whoIn l s ≢ 0 → Owner m s (whoIn l s)
+  owns s op = open-slot (rowsIn l) (cellsIn l) m (histOf l) so s (whoIn l s) op refl
+
+  -- the memory's sizes are those of the creation, and its slots are occupied by the transactions that the log has open
+  pub sizes-are-the-creations : (sizeR m ≡ rowsIn l) × (sizeN m ≡ cellsIn l)
+  sizes-are-the-creations = (so .rows, so .cells)
+
+  pub slot-has-the-open-id : (s : ℕ) → s < z .slots → slotAt m s .id ≡ whoIn l s
+  slot-has-the-open-id s lt = ap (λ (t : Slot). t .id) (sym (get-slots z (m .slots) s lt)) ∙ so .inv .known s
+
+  -- an id is below the clock, and in one slot only
+  pub id-is-below-the-clock : (s : ℕ) → whoIn l s ≢ 0 → whoIn l s < clock m
+  id-is-below-the-clock s op = id-past (rowsIn l) (cellsIn l) m (histOf l) so s (whoIn l s) (owns s op)
+
+  pub id-is-in-one-slot : (s t : ℕ) → whoIn l s ≢ 0 → t ≢ s → whoIn l t ≢ whoIn l s
+  id-is-in-one-slot s t op ne e =
+      ids-differ (rowsIn l) (suc (cellsIn l)) (viewOf m) (so .ghost) (histOf l) [] s (so .inv) (rw (so .inv .known s) op) t ne (so .inv .known t ∙ e ∙ sym (so .inv .known s))
+
+  -- a snapshot's xmin is the least of its active ids, its own among them; its xmax is above them all and at most the clock
+  pub snapshot-is-in-order : (s : ℕ) → whoIn l s ≢ 0 → InOrder (slotAt m s) (clock m)
+  snapshot-is-in-order s op = snapshot-order (rowsIn l) (cellsIn l) m (histOf l) so s (whoIn l s) (owns s op)
+
+  -- a head has xmax 0
+  pub head-is-not-superseded : (row : ℕ) → row < rowsIn l → headAt m row ≢ 0 → versionAt (m .cells) (headAt m row) .xmax .0 ≡ 0
+  head-is-not-superseded row inR nz = head-live (rowsIn l) (cellsIn l) m (histOf l) so row inR nz
+
+  -- every version behind a head has an xmax other than 0 and is unlocked
+  pub later-version-is-superseded-and-unlocked : (row c : ℕ) → row < rowsIn l → times c (behind (chainAt m row .cells)) ≢ 0
+      → (versionAt (m .cells) c .xmax .0 ≢ 0) × (versionAt (m .cells) c .locked ≡ 0)
+  later-version-is-superseded-and-unlocked row c inR nz = later-superseded (rowsIn l) (cellsIn l) m (histOf l) so row c inR nz
+
+  -- a nonzero base of an open write is its row's head, and locked by that id
+  pub base-is-head-and-locked : (s : ℕ) → whoIn l s ≢ 0 → All (λ w. w .base ≢ 0 → LockedFor m (whoIn l s) w) (slotAt m s .writes)
+  base-is-head-and-locked s op = bases-locked (rowsIn l) (cellsIn l) m (histOf l) so s (whoIn l s) (owns s op)
+
+  -- nothing else is locked: a locked cell is a base of an open write
+  pub nothing-else-is-locked : (c : ℕ) → c ≢ 0 → c ≤ cellsIn l → versionAt (m .cells) c .locked ≢ 0 → BaseOf m l c
+  nothing-else-is-locked c nz le f = locked-based (rowsIn l) (cellsIn l) m (histOf l) so l (λ i. refl) c nz le f
+
+  -- one entry a row in a write set; at most one record a row
+  pub one-entry-a-row : (s r : ℕ) → whoIn l s ≢ 0 → times r (ownRows (slotAt m s .writes)) ≤ 1
+  one-entry-a-row s r op = one-entry (rowsIn l) (cellsIn l) m (histOf l) so s (whoIn l s) (owns s op) r
+
+  pub one-record-a-row : (s r : ℕ) → whoIn l s ≢ 0 → times r (rowsRead (slotAt m s .recs)) ≤ 1
+  one-record-a-row s r op = one-record (rowsIn l) (cellsIn l) m (histOf l) so s (whoIn l s) (owns s op) r
+
+  -- Gap 6: as long as a record stands, its cell is in its row's chain with the xmin that was read, and the reader sees it. So the cell
+  -- was not reused since, and "recorded already" by the cell alone is right.
+  pub recorded-cell-is-never-reused : (s : ℕ) → whoIn l s ≢ 0 → All (TrueStill m s) (slotAt m s .recs)
+  recorded-cell-is-never-reused s op = records-true (rowsIn l) (cellsIn l) m (histOf l) so s (whoIn l s) (owns s op)
+
+  -- what vacuum may reclaim, with any request, no open reader sees: for all open snapshots at once
+  pub vacuum-removes-nothing-that-a-reader-sees : (request c : ℕ) → reclaimable (horizon m request) (versionAt (m .cells) c) ≡ true → (s : ℕ) → whoIn l s ≢ 0 → seesAt m s c ≡ false
+  vacuum-removes-nothing-that-a-reader-sees request c e s op = reclaimed-unseen (rowsIn l) (cellsIn l) m (histOf l) so s (whoIn l s) (owns s op) request c e
+
+  -- a commit is refused with 8 only for a row that had no version when it was written, and has one now
+  pub commit-refused-8-only-for-base-0 : (s id row : ℕ) → commitOut m s id .answer ≡ Answer.Refused 8 row → Overtaken m s row
+  commit-refused-8-only-for-base-0 s id row e = commit-eight (rowsIn l) (cellsIn l) m (histOf l) so s id row e

@@ -2,7 +2,7 @@
 -- the theorems on reachable stores speak of.
 use mathlib.Core.Bool.{Bool, false, cond, true}
 use mathlib.Core.List.{List, _∷_, [], _++_}
-use mathlib.Core.Logic.{_≢_}
+use mathlib.Core.Logic.{_⊎_, _≢_}
 use mathlib.Core.Option.{none, some}
 use mathlib.Core.Path.{_≡_}
 use Prim.Native.Nat.{ℕ, _<_, suc, _≤_}
@@ -97,6 +97,11 @@ abbrev pub All : {A : Type 0} → (A → Type 0) → List A → Type 0
 All P [] = Unit {0}
 All P (q ∷ l) = P q × All P l
 
+-- a is a member
+abbrev pub In : {A : Type 0} → A → List A → Type 0
+In a [] = ⊥
+In a (b ∷ l) = (a ≡ b) ⊎ In a l
+
 -- a snapshot in order: xmin is the least of the active ids, the own id is among them, xmax is above them all and at most the clock
 pub record InOrder (t : Slot) (now : ℕ) : Type 0 where
   pub self : has (t .id) (t .active) ≡ true
@@ -127,6 +132,7 @@ module _ {z : Sizes} (m : Mem z) where
   -- a write of the slot to a row that had no version when it was written, and has one now
   pub record Overtaken (s row : ℕ) : Type 0 where
     pub entry : Write
+    pub among : In entry (slotAt m s .writes)
     pub row-is : entry .row ≡ row
     pub base : entry .base ≡ 0
     pub head : headAt m row ≢ 0

@@ -40,3 +40,4 @@ pub mod OnePlace
 pub mod Clock
 pub mod Continuing
 pub mod Facts
+pub mod CommitRefused

@@ -6,7 +6,7 @@ use mathlib.Core.Path.{_≡_, refl, sym, _∙_}
 use Prim.Native.Nat.{ℕ}
 use Rattle.rules.specs.Versions.{at}
 use Rattle.rules.specs.Outcome.{Test, guard, each}
-use Rattle.rules.specs.Reachable.{All}
+use Rattle.rules.specs.Reachable.{All, In}
 use Rattle.rules.specs.Theory.Cases.{byBool}
 
 abbrev pub Passed : List Test → Type 0
@@ -61,25 +61,28 @@ unfolding each
 safe-each k f [] s = tt
 safe-each k f (a ∷ l) s = safe-append k (f a) (each f l) (s .0) (λ _. safe-each k f l (s .1))
 
--- a test of the list fails, with this number and value
+-- the first test of the list that fails has this number and value
 abbrev pub Cause : ℕ → ℕ → List Test → Type 0
 Cause k x [] = ⊥
-Cause k x (t ∷ l) = ((t .fails ≡ true) × (t .number ≡ k) × (t .value ≡ x)) ⊎ Cause k x l
+Cause k x (t ∷ l) = ((t .fails ≡ true) × (t .number ≡ k) × (t .value ≡ x)) ⊎ ((t .fails ≡ false) × Cause k x l)
 
-pub guard-cause : {A : Type 0} (r : ℕ → ℕ → A) (K : A → Type 0) (k x : ℕ) → ((n y : ℕ) → K (r n y) → (n ≡ k) × (y ≡ x)) → (l : List Test) (a : A) → (K a → ⊥) → K (guard r l a) → Cause k x l
+pub guard-cause : {A : Type 0} (r : ℕ → ℕ → A) (K : A → Type 0) (k x : ℕ) → ((n y : ℕ) → K (r n y) → (n ≡ k) × (y ≡ x)) → (l : List Test) (a : A) → (Passed l → K a → ⊥) → K (guard r l a) → Cause k x l
 unfolding guard
-guard-cause r K k x e [] a f q = f q
+guard-cause r K k x e [] a f q = f tt q
 guard-cause r K k x e (t ∷ l) a f q = byBool (t .fails)
     (λ y. let b = e (t .number) (t .value) (rw y at q) in inl (y, b .0, b .1))
-    (λ y. inr (guard-cause r K k x e l a f (rw y at q)))
+    (λ y. inr (y, guard-cause r K k x e l a (λ p. f (y, p)) (rw y at q)))
 
-pub cause-split : (k x : ℕ) (a b : List Test) → Cause k x (a ++ b) → Cause k x a ⊎ Cause k x b
-cause-split k x [] b c = inr c
+pub cause-split : (k x : ℕ) (a b : List Test) → Cause k x (a ++ b) → Cause k x a ⊎ (Passed a × Cause k x b)
+cause-split k x [] b c = inr (tt, c)
 cause-split k x (t ∷ a) b (inl c) = inl (inl c)
-cause-split k x (t ∷ a) b (inr c) = ⊎-elim (λ y. inl (inr y)) (λ y. inr y) (cause-split k x a b c)
+cause-split k x (t ∷ a) b (inr c) = ⊎-elim (λ y. inl (inr (c .0, y))) (λ y. inr ((c .0, y .0), y .1)) (cause-split k x a b (c .1))
 
 -- among the tests of each member, those of one; P holds of every member
-pub cause-each : {A : Type 0} (k x : ℕ) (f : A → List Test) (P : A → Type 0) (l : List A) → All P l → Cause k x (each f l) → (a : A) × P a × Cause k x (f a)
+pub cause-each : {A : Type 0} (k x : ℕ) (f : A → List Test) (P : A → Type 0) (l : List A) → All P l → Cause k x (each f l) → (a : A) × In a l × P a × Cause k x (f a)
 unfolding each
 cause-each k x f P [] h c = absurd c
-cause-each k x f P (a ∷ l) h c = ⊎-elim (λ y. (a, h .0, y)) (λ y. cause-each k x f P l (h .1) y) (cause-split k x (f a) (each f l) c)
+cause-each k x f P (a ∷ l) h c = ⊎-elim
+    (λ y. (a, inl refl, h .0, y))
+    (λ y. let r = cause-each k x f P l (h .1) (y .1) in (r .0, inr (r .1), r .2, r .3))
+    (cause-split k x (f a) (each f l) c)
