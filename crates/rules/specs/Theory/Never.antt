@@ -22,12 +22,12 @@ use Rattle.rules.specs.Snapshot.{horizon}
 use Rattle.rules.specs.Outcome.{storeTests, Test, each, slotTests, isCell, Outcome, refuse, refuseRead, rowTest}
 use Rattle.rules.specs.Create.{createOut}
 use Rattle.rules.specs.Begin.{beginOut}
-use Rattle.rules.specs.Read.{own, Sight, readEnd, readAt, readOut, answerAt}
+use Rattle.rules.specs.Read.{own, Sight, readEnd, readAt, readOut, sees, answerAt}
 use Rattle.rules.specs.Write.{writeNow, headTests, writeOut}
 use Rattle.rules.specs.Commit.{recordTests, commitTests, baseTests, newTests, commitOut}
 use Rattle.rules.specs.Abort.{news, abortOut, abortTests}
 use Rattle.rules.specs.Vacuum.{vacuumNow, swept, vacuumOut}
-use Rattle.rules.specs.Lookup.{Found, stopped, got, listRow, isKey, findRow, find, lookupEnd, ownRowTests, ownRows, candidateTests, lookupOut, lookupAllOut}
+use Rattle.rules.specs.Lookup.{Found, stopped, got, listRow, isKey, find, findRow, lookupEnd, ownRowTests, ownRows, candidateTests, lookupOut, lookupAllOut}
 use Rattle.rules.specs.Run.{write, read, begin, commit, abort, vacuum, lookup, lookupAll, create, Call, replyNumber, step}
 use Rattle.rules.specs.Reachable.{All}
 use Rattle.rules.specs.Theory.Cases.{byEq, byBool}
@@ -38,7 +38,7 @@ use Rattle.rules.specs.Theory.Inv.{Hist, Open, Ver, Entries, inSlot, ver
 use Rattle.rules.specs.Theory.Places.{chain-cell, head-among, free-alone, spelled-first, own-cell}
 use Rattle.rules.specs.Theory.SlotSteps.{open-in}
 use Rattle.rules.specs.Theory.Locks.{Holds}
-use Rattle.rules.specs.Theory.Reading.{Own, Right, right, long, full, read-right, own-is}
+use Rattle.rules.specs.Theory.Reading.{Own, Right, own-write, no-version, old-version, new-version, long, full, read-right, own-is}
 use Rattle.rules.specs.Theory.Guard.{Passed, Safe, safe-append, safe-passed, passed-join, guard-safe, passed-split, safe-each}
 use Rattle.rules.specs.Theory.Refusals.{answer-plain}
 use Rattle.rules.specs.Theory.Good.{Good, Owner, view-open, owner}
@@ -151,7 +151,10 @@ module _ {z : Sizes} (R N : ℕ) (m : Mem z) (h : Hist) (gd : Good R N m h) wher
   -- a sight that is right is no 15
   sight-safe : (g : Hist) (s row : ℕ) (rs : List Rec) (x : Sight) → Right z (viewOf m) (gd .ghost) g s row rs x → readNumber (readEnd m s x .answer) ≢ damaged
   unfolding readEnd
-  sight-safe g s row rs _ (right c l a b d) = rw (answer-plain (versionAt (m .cells)) c) (omega arith)
+  sight-safe g s row rs _ (own-write v a c b) = rw (answer-plain (versionAt (m .cells)) c) (omega arith)
+  sight-safe g s row rs _ (no-version a b d e) = rw (answer-plain (versionAt (m .cells)) 0) (omega arith)
+  sight-safe g s row rs _ (old-version a c b d e f) = rw (answer-plain (versionAt (m .cells)) c) (omega arith)
+  sight-safe g s row rs _ (new-version a c b d e f k) = rw (answer-plain (versionAt (m .cells)) c) (omega arith)
   sight-safe g s row rs _ (long a b) = omega arith
   sight-safe g s row rs _ (full a b) = omega arith
 
@@ -263,13 +266,20 @@ module _ {z : Sizes} (R N : ℕ) (m : Mem z) (h : Hist) (gd : Good R N m h) wher
   NotStopped (got recs rows) = Unit {0}
 
   module _ (s id : ℕ) (o : Owner m s id) (key room : ℕ) where
+    seen-safe : (r : ℕ) (recs : List Rec) (rows : List ℕ) (c : ℕ) (new : List Rec) → NotStopped (listRow m (t s id o) key room r recs rows (sees c new))
+    unfolding listRow
+    seen-safe r recs rows c new = byBool (isKey key (answerAt (versionAt (m .cells)) c))
+        (λ y. rw y (byBool (leb room (length rows)) (λ f. rw f (omega arith)) (λ f. rw f tt)))
+        (λ y. rw y tt)
+
     list-safe : (r : ℕ) (rs recs : List Rec) (rows : List ℕ) (x : Sight) → Right z (viewOf m) (gd .ghost) h s r rs x → NotStopped (listRow m (t s id o) key room r recs rows x)
     unfolding listRow
     list-safe r rs recs rows _ (long a b) = omega arith
     list-safe r rs recs rows _ (full a b) = omega arith
-    list-safe r rs recs rows _ (right c l a b d) = byBool (isKey key (answerAt (versionAt (m .cells)) c))
-        (λ y. rw y (byBool (leb room (length rows)) (λ f. rw f (omega arith)) (λ f. rw f tt)))
-        (λ y. rw y tt)
+    list-safe r rs recs rows _ (own-write v a c b) = seen-safe r recs rows c []
+    list-safe r rs recs rows _ (no-version a b d f) = seen-safe r recs rows 0 []
+    list-safe r rs recs rows _ (old-version a c b d f y) = seen-safe r recs rows c []
+    list-safe r rs recs rows _ (new-version a c b d f y k) = seen-safe r recs rows c _
 
     row-safe : (r : ℕ) → r < R → (f : Found) → NotStopped f → NotStopped (findRow m (t s id o) key room r f)
     unfolding findRow

@@ -1,8 +1,8 @@
 -- A read on a store of which all holds, in the words of the memory and of the log.
-use mathlib.Core.Bool.{not}
+use mathlib.Core.Bool.{not, true≢false}
 use mathlib.Core.List.{_∷_, [], _++_}
 use mathlib.Core.Logic.{_≢_}
-use mathlib.Core.Option.{Option, none}
+use mathlib.Core.Option.{some, Option, none}
 use mathlib.Core.Path.{_≡_, refl, sym, ap, _∙_, subst}
 use Prim.Native.Nat.{ℕ, _<_, _≤_}
 use native.Mathlib.Omega.{arith}
@@ -11,6 +11,7 @@ use borrow.Author.Tests.{not-false, lt-leb}
 use Rattle.rules.specs.declared.Answer.{Answer}
 use Rattle.rules.specs.declared.Answer.the-variants.{Done}
 use Rattle.rules.specs.declared.ReadAnswer.{ReadAnswer}
+use Rattle.rules.specs.declared.ReadAnswer.the-variants.{None}
 use Rattle.rules.specs.Sizes.{Sizes, Roomy}
 use Rattle.rules.specs.Numbers.{badSize, chainTooLong, readSetFull}
 use Rattle.rules.specs.Lists.{first}
@@ -20,19 +21,22 @@ use Rattle.rules.specs.Memory.{Mem, slotAt, wordsAt, sizeR}
 use Rattle.rules.specs.Chain.{Chain}
 use Rattle.rules.specs.Outcome.{Outcome, refuse, test, fits, slotTests, rowTest, refuseRead}
 use Rattle.rules.specs.Create.{createOut}
-use Rattle.rules.specs.Read.{Sight, readEnd, readOut, readAt}
-use Rattle.rules.specs.History.{made, Log, whoIn, rowsIn, cellsIn, ownIn, answerOf, valueIn}
+use Rattle.rules.specs.Read.{recorded, Sight, readEnd, answerAt, readOut, readAt}
+use Rattle.rules.specs.History.{made, Log, whoIn, rowsIn, cellsIn, ownIn, answerOf, valueIn, viewIn}
 use Rattle.rules.specs.Reachable.{Reachable, chainAt, seesAt, walkedAt, TooLong, ReadSetFull}
 use Rattle.rules.specs.Theory.SlotLaws.{recs-length}
 use Rattle.rules.specs.Theory.View.{viewOf, get-slots}
 use Rattle.rules.specs.Theory.Effects.{slotV}
 use Rattle.rules.specs.Theory.Inv.{vers}
-use Rattle.rules.specs.Theory.Reading.{Beyond, full, Full, pickCell, pick-visible, long, Right, right}
+use Rattle.rules.specs.Theory.Reading.{Beyond, full, Full, pickCell, pick-visible, long, none-some, Right, own-write, no-version, old-version, new-version}
 use Rattle.rules.specs.Theory.Guard.{guardCase, Passed, passed-join, guard-passed}
 use Rattle.rules.specs.Theory.Good.{Owner}
 use Rattle.rules.specs.Theory.VacuumCall.{row-chain}
 use Rattle.rules.specs.Theory.Steps.{Sound, create-starts, run-sound, histOf}
 use Rattle.rules.specs.Theory.Never.{open-slot, slot-passed, right-at}
+
+some-same : (a b : ℕ) → _≡_ {A = Option ℕ} (some a) (some b) → a ≡ b
+some-same a b q = cc
 
 module _ {z : Sizes} where
   guard-done : (m : Mem z) (n r : ℕ) → createOut m n r .answer ≡ Done → Roomy z → Sound (createOut m n r .after) (made n r ∷ [])
@@ -99,9 +103,16 @@ module _ {z : Sizes} (m : Mem z) (l : Log) (gd : Sound m l) (s row : ℕ) (op : 
     is-long : TooLong m l s row → ReadIs (ReadAnswer.Refused chainTooLong row)
     is-full : ReadSetFull m l s row → ReadIs (ReadAnswer.Refused readSetFull row)
 
+  -- no own write, and the walk finds c: neither too long, nor, where the record stands or there is room for it, full
+  shown : ownIn l s row ≡ none → (c : ℕ) → looks ≡ some c → (fullSet → ⊥) → (a : ReadAnswer) → a ≡ answerOf (viewIn l s row) → ReadIs a
+  shown e c p nf a q = is-told a (q ∙ rw e refl) (λ x. none-some _ c (from-long x .1) p) (λ x. nf (from-full x))
+
   sight-is : (g : Sight) → Right z (viewOf m) (gd .ghost) (histOf l) s row (slotV (viewOf m) s .recs) g → ReadIs (readEnd m s g .answer)
-  unfolding readEnd
-  sight-is _ (right c q e nl nf) = is-told _ e (λ a. nl (a .noOwn) (from-long a)) (λ a. nf (a .noOwn) (from-full a))
+  unfolding readEnd answerAt
+  sight-is _ (own-write v e c q) = is-told _ (q ∙ rw e refl) (λ a. none-some _ v (a .noOwn) e) (λ a. none-some _ v (a .noOwn) e)
+  sight-is _ (no-version e v le p) = is-told None (rw (e, v) refl) (λ a. omega (arith, from-long a .0)) (λ a. none-some _ (from-full a .0) p (from-full a .1))
+  sight-is _ (old-version e c p k q y) = shown e c p (λ b. true≢false (sym y ∙ ap (λ (x : ℕ). recorded x (slotV (viewOf m) s .recs)) (some-same c (b .0) (sym p ∙ b .1)) ∙ b .2)) _ q
+  sight-is _ (new-version e c p k q y lt) = shown e c p (λ b. omega (arith, b .3)) _ q
   sight-is _ (long e b) = is-long (to-long e b)
   sight-is _ (full e b) = is-full (to-full e b)
 

@@ -1,5 +1,5 @@
 -- What a read answers, against the history.
-use mathlib.Core.Bool.{true, false, cond, true≢false}
+use mathlib.Core.Bool.{true, false, cond}
 use mathlib.Core.List.{List, _∷_, []}
 use mathlib.Core.Logic.{_≢_}
 use mathlib.Core.Option.{Option, none, some}
@@ -15,7 +15,7 @@ use Rattle.rules.specs.Sizes.{Sizes}
 use Rattle.rules.specs.Numbers.{chainTooLong, readSetFull}
 use Rattle.rules.specs.Lists.{first, orElse, last, nonzero}
 use Rattle.rules.specs.Versions.{at}
-use Rattle.rules.specs.Slots.{Slot, Write, Rec}
+use Rattle.rules.specs.Slots.{Slot, rec, Write, Rec}
 use Rattle.rules.specs.Visible.{visible}
 use Rattle.rules.specs.Chain.{Look, found, nothing, tooLong, look, lookOf}
 use Rattle.rules.specs.Read.{sees, own, answerAt, recorded, Sight, blocked, sightOf, ownSight, readRow}
@@ -116,11 +116,15 @@ ends-none (suc k) t f (c ∷ l) le p = byBool (vis t (f c))
 abbrev pub Full : Sizes → Slot → (ℕ → Ver) → List ℕ → List Rec → Type 0
 Full z t f l rs = (c : ℕ) × (pickCell t f (take (z .walk) l) ≡ some c) × (recorded c rs ≡ false) × (z .reads ≤ length rs)
 
--- a read of row r by slot i, where the records rs stand: the value that history says, or a refusal, each exactly when
+-- a read of row r by slot i, where the records rs stand: what it comes to, each case exactly when
 pub data Right (z : Sizes) (st : View) (g : Ghost) (h : Hist) (i r : ℕ) (rs : List Rec) : Sight → Type 0 where
-  right : (c : ℕ) (l : List Rec) → answerAt (st .vers) c ≡ answerOf (orElse (h .own i r) (h .view i r))
-      → (h .own i r ≡ none → Beyond (z .walk) (slotV st i) (vers st) (getD (g .rows) r []) → ⊥) → (h .own i r ≡ none → Full z (slotV st i) (vers st) (getD (g .rows) r []) rs → ⊥)
-      → Right z st g h i r rs (sees c l)
+  own-write : (v : Val) → h .own i r ≡ some v → (c : ℕ) → answerAt (st .vers) c ≡ answerOf (some v) → Right z st g h i r rs (sees c [])
+  no-version : h .own i r ≡ none → h .view i r ≡ none → length (getD (g .rows) r []) ≤ z .walk → pickCell (slotV st i) (vers st) (take (z .walk) (getD (g .rows) r [])) ≡ none
+      → Right z st g h i r rs (sees 0 [])
+  old-version : h .own i r ≡ none → (c : ℕ) → pickCell (slotV st i) (vers st) (take (z .walk) (getD (g .rows) r [])) ≡ some c → cnt c (getD (g .rows) r []) ≢ 0
+      → answerAt (st .vers) c ≡ answerOf (h .view i r) → recorded c rs ≡ true → Right z st g h i r rs (sees c [])
+  new-version : h .own i r ≡ none → (c : ℕ) → pickCell (slotV st i) (vers st) (take (z .walk) (getD (g .rows) r [])) ≡ some c → cnt c (getD (g .rows) r []) ≢ 0
+      → answerAt (st .vers) c ≡ answerOf (h .view i r) → recorded c rs ≡ false → length rs < z .reads → Right z st g h i r rs (sees c (rec r c (st .vers c .xmin .0) ∷ []))
   long : h .own i r ≡ none → Beyond (z .walk) (slotV st i) (vers st) (getD (g .rows) r []) → Right z st g h i r rs (blocked chainTooLong r)
   full : h .own i r ≡ none → Full z (slotV st i) (vers st) (getD (g .rows) r []) rs → Right z st g h i r rs (blocked readSetFull r)
 
@@ -131,24 +135,16 @@ module _ (z : Sizes) (R n : ℕ) (st : View) (g : Ghost) (h : Hist) (i r : ℕ) 
   abbrev t : Slot
   t = slotV st i
 
-  -- what the first visible version of the chain says is the view
-  viewed : (o : Option Val) → h .own i r ≡ none → pick t (vers st) row ≡ o → answerOf o ≡ answerOf (orElse (h .own i r) (h .view i r))
-  viewed o e p = rw (e, sym ((iv .opens i op) .reads r) ∙ p)
-
   walked : h .own i r ≡ none → (k : Look) → Looks (z .walk) t (vers st) row k → Right z st g h i r rs (sightOf z n (st .vers) (st .heads r) t rs r k)
-  unfolding sightOf answerAt
+  unfolding sightOf
   walked e _ (too-far b) = long e b
-  walked e _ (at-end le p) = right 0 [] (viewed none e p) (λ _ b. omega (arith, b .0)) (λ _ b. absurd (none-some _ (b .0) (ends-none (z .walk) t (vers st) row le p) (b .1)))
+  walked e _ (at-end le p) = no-version e (sym ((iv .opens i op) .reads r) ∙ p) le (ends-none (z .walk) t (vers st) row le p)
   walked e _ (at-cell c p s) =
       let nz = chain-cell R (suc n) st g h [] c r iv (s .among) .real in
-      let ok : answerAt (st .vers) c ≡ answerOf (orElse (h .own i r) (h .view i r)) = answer-val (st .vers) c nz ∙ viewed (some (vers st c .val)) e (s .shows) in
-      let near : h .own i r ≡ none → Beyond (z .walk) t (vers st) row → ⊥ = λ _ b. none-some _ c (b .1) p in
+      let ok : answerAt (st .vers) c ≡ answerOf (h .view i r) = answer-val (st .vers) c nz ∙ ap answerOf (sym (s .shows) ∙ (iv .opens i op) .reads r) in
       byBool (recorded c rs)
-      (λ y. rw y (right c [] ok near (λ _ b. true≢false (sym y ∙ ap (λ (x : ℕ). recorded x rs) (some-same c (b .0) (sym p ∙ b .1)) ∙ b .2))))
-      (λ y. rw y (byBool (leb (z .reads) (length rs)) (λ f. rw f (full e (c, p, y, leb-true _ _ f))) (λ f. rw f (right c _ ok near (λ _ b. omega (arith, leb-false (z .reads) (length rs) f, b .3))))))
-    where
-      some-same : (a b : ℕ) → _≡_ {A = Option ℕ} (some a) (some b) → a ≡ b
-      some-same a b q = cc
+      (λ y. rw y (old-version e c p (s .among) ok y))
+      (λ y. rw y (byBool (leb (z .reads) (length rs)) (λ f. rw f (full e (c, p, y, leb-true _ _ f))) (λ f. rw f (new-version e c p (s .among) ok y (leb-false (z .reads) (length rs) f)))))
 
   own-right : (o : Option Write) → Own (vers st) (t .writes) r o → Right z st g h i r rs (ownSight z n (st .vers) (st .heads r) t rs r o)
   unfolding ownSight
@@ -156,9 +152,7 @@ module _ (z : Sizes) (R n : ℕ) (st : View) (g : Ghost) (h : Hist) (i r : ℕ) 
   own-right (some w) a =
       let v = own-cell R (suc n) st g h i (w .new) iv (a .1) in
       let le : w .new ≤ n = le-of-suc-le-suc (v .1) in
-      let e = sym ((iv .opens i op) .owns r) ∙ a .0 in
-      rw (ne-eqb (w .new) 0 (v .0), le-leb (w .new) n le)
-      (right (w .new) [] (rw e (answer-val (st .vers) (w .new) (v .0))) (λ q _. none-some _ _ q e) (λ q _. none-some _ _ q e))
+      rw (ne-eqb (w .new) 0 (v .0), le-leb (w .new) n le) (own-write (vers st (w .new) .val) (sym ((iv .opens i op) .owns r) ∙ a .0) (w .new) (answer-val (st .vers) (w .new) (v .0)))
 
   pub read-right : Right z st g h i r rs (readRow z n (st .vers) (st .heads r) t rs r)
   unfolding readRow
