@@ -20,5 +20,6 @@ pub mod Run
 pub mod WholeRun
 pub mod History
 pub mod Reachable
+pub mod Listing
 pub mod Theory
 pub mod Demand3

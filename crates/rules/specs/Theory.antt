@@ -41,3 +41,4 @@ pub mod Clock
 pub mod Continuing
 pub mod Facts
 pub mod CommitRefused
+pub mod LookupLaw

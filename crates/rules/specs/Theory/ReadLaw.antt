@@ -73,7 +73,7 @@ module _ {z : Sizes} (m : Mem z) (l : Log) (gd : Sound m l) (s row : ℕ) (op : 
   looks = pickCell (slotV (viewOf m) s) (vers (viewOf m)) (take (z .walk) (getD (gd .ghost .rows) row []))
 
   -- the walk in the two languages
-  walk-is : first (seesAt m s) (walkedAt m row) ≡ looks
+  pub walk-is : first (seesAt m s) (walkedAt m row) ≡ looks
   walk-is = pick-visible (slotAt m s) (versionAt (m .cells)) (walkedAt m row) ∙ sym (rw (at-slot, at-row))
 
   to-long : ownIn l s row ≡ none → beyond → TooLong m l s row
