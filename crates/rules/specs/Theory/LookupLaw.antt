@@ -2,36 +2,42 @@
 use mathlib.Core.Bool.{Bool, true, false, _||_, _&&_, not}
 use mathlib.Core.List.{List, _++_, _∷_, [], append-assoc, append-nil}
 use mathlib.Core.Logic.{_≢_}
-use mathlib.Core.Option.{some, none}
+use mathlib.Core.Option.{some, none, Option}
 use mathlib.Core.Path.{_≡_, ap, refl, subst, sym, _∙_}
 use Prim.Native.Nat.{ℕ, _+_, _≤_, suc, zero, _<_}
 use native.Mathlib.Omega.{arith}
 use lib.Dec.{eqb, leb}
 use lib.ListN.{length, getD, take, length-append}
-use borrow.Author.Tests.{ne-eqb, le-ltb, lt-ltb, le-leb, lt-leb}
+use lib.Seq.{append-snoc}
+use borrow.Author.Tests.{ne-eqb, le-ltb, lt-ltb, le-leb, lt-leb, eq-eqb}
+use Rattle.rules.specs.declared.Answer.the-variants.{Listed}
 use Rattle.rules.specs.declared.ReadAnswer.the-variants.{None}
 use Rattle.rules.specs.Sizes.{Sizes}
 use Rattle.rules.specs.Numbers.{resultFull, chainTooLong, readSetFull}
-use Rattle.rules.specs.Lists.{keep, from, first}
+use Rattle.rules.specs.Lists.{keep, fold, from, first, has}
 use Rattle.rules.specs.Versions.{at, versionAt}
-use Rattle.rules.specs.Slots.{Rec, Slot}
-use Rattle.rules.specs.Memory.{Mem, slotAt}
-use Rattle.rules.specs.Read.{recorded, sees, answerAt, blocked, Sight}
-use Rattle.rules.specs.Lookup.{Found, got, stopped, isKey, listRow}
+use Rattle.rules.specs.Slots.{Rec, Slot, addRecs, Write}
+use Rattle.rules.specs.Memory.{Mem, slotAt, headAt, withSlot, wordsAt, sizeR}
+use Rattle.rules.specs.Outcome.{Test, refuse, out, each, slotTests}
+use Rattle.rules.specs.Read.{recorded, sees, answerAt, blocked, Sight, readRow}
+use Rattle.rules.specs.Lookup.{Found, got, stopped, isKey, listRow, findRow, find, lookupEnd, lookupOut, ownRowTests, ownRows, rowsToRead, candidateTests, lookupAllOut}
 use Rattle.rules.specs.History.{Log, whoIn, rowsIn, cellsIn, Val, ownIn, answerOf, viewIn}
 use Rattle.rules.specs.Reachable.{All, seesAt, walkedAt, chainAt}
-use Rattle.rules.specs.Listing.{hit, needs, trouble, troubleValue, looksPast, isNone}
-use Rattle.rules.specs.Theory.Cases.{byBool, and-false, or-false}
+use Rattle.rules.specs.Listing.{hit, needs, trouble, troubleValue, looksPast, isNone, NoTrouble, rowsOf}
+use Rattle.rules.specs.Theory.Cases.{byBool, and-false, or-false, byEq}
 use Rattle.rules.specs.Theory.View.{View, viewOf, get-slots}
 use Rattle.rules.specs.Theory.Effects.{slotV}
 use Rattle.rules.specs.Theory.Counting.{cnt}
-use Rattle.rules.specs.Theory.Inv.{Recorded, vers, all-map}
+use Rattle.rules.specs.Theory.Inv.{Recorded, vers, all-map, Ver, ownFind}
 use Rattle.rules.specs.Theory.Places.{chain-cell}
 use Rattle.rules.specs.Theory.Reading.{Right, pickCell, full, own-write, no-version, old-version, new-version, long}
-use Rattle.rules.specs.Theory.Good.{Owner}
-use Rattle.rules.specs.Theory.Recording.{Rightly, all-append, Noted}
+use Rattle.rules.specs.Theory.Guard.{Passed, guard-passed, passed-join, passed-each}
+use Rattle.rules.specs.Theory.Good.{Owner, view-open}
+use Rattle.rules.specs.Theory.Recording.{Rightly, all-append, Noted, noted}
+use Rattle.rules.specs.Theory.ReadCall.{recs-right}
+use Rattle.rules.specs.Theory.LookupCall.{keep-all, from-below}
 use Rattle.rules.specs.Theory.Steps.{Sound, histOf}
-use Rattle.rules.specs.Theory.Never.{open-slot}
+use Rattle.rules.specs.Theory.Never.{open-slot, right-at, slot-passed, Entered, all-entered}
 use Rattle.rules.specs.Theory.ReadLaw.{walk-is}
 use Rattle.rules.specs.Theory.Facts.{at-row}
 
@@ -231,3 +237,121 @@ module _ {z : Sizes} (m : Mem z) (l : Log) (gd : Sound m l) (s : ℕ) (op : whoI
     stepped _ (long e b) ok = stopped-past (past-trouble (nothing-past e (walk-at ∙ b .1) (rw chain-at at (b .0))))
     stepped _ (full e b) ok =
         stopped-full (full-trouble (found-near (b .0) (walk-at ∙ b .1)) (found-need (b .0) false e (walk-at ∙ b .1) (recs-false (b .0) (b .2))) (omega (arith, rs-length, b .3)))
+
+  -- ---- the rows one after the other
+
+  goes-on : (before : List ℕ) (r : ℕ) (x : Found) → Stepped before r x → trouble m l s key room before r ≡ 0
+      → (recs : List Rec) × (rows : List ℕ) × (x ≡ got recs rows) × State (before ++ (r ∷ [])) recs rows (suc r)
+  goes-on before r _ (goes e recs rows sta) z0 = (recs, rows, refl, sta)
+  goes-on before r _ (stops k e nz) z0 = absurd (nz (sym e ∙ z0))
+
+  stops-here : (before : List ℕ) (r : ℕ) (x : Found) → Stepped before r x → trouble m l s key room before r ≢ 0
+      → x ≡ stopped (trouble m l s key room before r) (troubleValue m l s key room (trouble m l s key room before r) r)
+  stops-here before r _ (goes e recs rows sta) nz = absurd (nz e)
+  stops-here before r _ (stops k e nz) _ = rw e refl
+
+  one-row : (before : List ℕ) (recs : List Rec) (rows : List ℕ) (b r : ℕ) → State before recs rows b → b ≤ r → r < rowsIn l → Stepped before r (findRow m t key room r (got recs rows))
+  unfolding findRow
+  one-row before recs rows b r sta le inR =
+      stepped before recs rows b r sta le inR _ (right-at (rowsIn l) (cellsIn l) m (histOf l) gd s (whoIn l s) r (t .recs ++ recs) o inR)
+      (subst (λ (k : ℕ). Noted z st (gd .ghost) s (t .recs ++ recs) (readRow z k (versionAt (m .cells)) (headAt m r) t (t .recs ++ recs) r)) (sym (gd .cells))
+      (noted z (rowsIn l) (cellsIn l) st (gd .ghost) (histOf l) s r (gd .inv) (view-open m s (whoIn l s) o) inR (t .recs ++ recs) (sta .right)))
+
+  abbrev go : List ℕ → Found → Found
+  go rows f = fold (findRow m t key room) rows f
+
+  stays-stopped : (rows : List ℕ) (k x : ℕ) → go rows (stopped k x) ≡ stopped k x
+  unfolding fold findRow
+  stays-stopped [] k x = refl
+  stays-stopped (r ∷ rows) k x = stays-stopped rows k x
+
+  lists-all : (left before : List ℕ) (recs : List Rec) (rows : List ℕ) (b : ℕ) → State before recs rows b → Rising b left → All (λ r. r < rowsIn l) left → NoTrouble m l s key room before left
+      → (new : List Rec) × (go left (got recs rows) ≡ got new (keep isHit (before ++ left)))
+  unfolding fold
+  lists-all [] before recs rows b sta ri a n = (recs, ap (got recs) (sta .hits ∙ ap (keep isHit) (sym (append-nil before))))
+  lists-all (r ∷ left) before recs rows b sta ri a n =
+      let x = goes-on before r _ (one-row before recs rows b r sta (ri .0) (a .0)) (n .0) in
+      let y = lists-all left (before ++ (r ∷ [])) (x .0) (x .1) (suc r) (x .3) (ri .1) (a .1) (n .1) in
+      (y .0, ap (go left) (x .2) ∙ y .1 ∙ ap (λ (q : List ℕ). got (y .0) (keep isHit q)) (append-snoc before r left))
+
+  stops-first : (pre before : List ℕ) (r : ℕ) (post : List ℕ) (recs : List Rec) (rows : List ℕ) (b : ℕ) → State before recs rows b → Rising b (pre ++ (r ∷ post)) → All (λ q. q < rowsIn l) (pre ++ (r ∷ post))
+      → NoTrouble m l s key room before pre → trouble m l s key room (before ++ pre) r ≢ 0
+      → go (pre ++ (r ∷ post)) (got recs rows) ≡ stopped (trouble m l s key room (before ++ pre) r) (troubleValue m l s key room (trouble m l s key room (before ++ pre) r) r)
+  unfolding fold
+  stops-first [] before r post recs rows b sta ri a n nz =
+      let e = append-nil before in
+      rw e (ap (go post) (stops-here before r _ (one-row before recs rows b r sta (ri .0) (a .0)) (rw e at nz)) ∙ stays-stopped post _ _)
+  stops-first (q ∷ pre) before r post recs rows b sta ri a n nz =
+      let x = goes-on before q _ (one-row before recs rows b q sta (ri .0) (a .0)) (n .0) in
+      let e = append-snoc before q pre in
+      let y = stops-first pre (before ++ (q ∷ [])) r post (x .0) (x .1) (suc q) (x .3) (ri .1) (a .1) (n .1) (rw e nz) in
+      ap (go (pre ++ (r ∷ post))) (x .2) ∙ subst (λ (c : List ℕ). go (pre ++ (r ∷ post)) (got (x .0) (x .1)) ≡ stopped (trouble m l s key room c r) (troubleValue m l s key room (trouble m l s key room c r) r)) e y
+
+  start : State [] [] [] 0
+  unfolding keep
+  start = record { right = rw (append-nil (t .recs)) (recs-right (rowsIn l) (cellsIn l) m (histOf l) gd s (whoIn l s) o); count = refl; hits = refl; early = tt }
+
+  -- ---- the ends of a lookup
+  end-listed : (late : List Test) → Passed late → (new : List Rec) (rows : List ℕ) (f : Found) → f ≡ got new rows → (lookupEnd m s late f .answer ≡ Listed (length rows)) × (lookupEnd m s late f .front ≡ rows)
+  unfolding lookupEnd
+  end-listed late p new rows f e = rw e (rw (guard-passed (refuse m) late (out (Listed (length rows)) rows (withSlot m s (addRecs z new (wordsAt m s)))) p) (refl, refl))
+
+  end-stopped : (late : List Test) (k x : ℕ) (f : Found) → f ≡ stopped k x → lookupEnd m s late f ≡ refuse m k x
+  unfolding lookupEnd
+  end-stopped late k x f e = rw e refl
+
+  pub found-all : (late : List Test) → Passed late → (rows : List ℕ) → Rising 0 rows → All (λ r. r < rowsIn l) rows → NoTrouble m l s key room [] rows
+      → (lookupEnd m s late (find m (slotAt m s) key room rows) .answer ≡ Listed (length (keep isHit rows))) × (lookupEnd m s late (find m (slotAt m s) key room rows) .front ≡ keep isHit rows)
+  found-all late p rows ri a n =
+      let x = lists-all rows [] [] [] 0 start ri a n in
+      end-listed late p (x .0) (keep isHit rows) _ (subst (λ (u : Slot). find m u key room rows ≡ got (x .0) (keep isHit rows)) at-slot (x .1))
+
+  pub found-stop : (late : List Test) (pre : List ℕ) (r : ℕ) (post : List ℕ) → Rising 0 (pre ++ (r ∷ post)) → All (λ q. q < rowsIn l) (pre ++ (r ∷ post)) → NoTrouble m l s key room [] pre → trouble m l s key room pre r ≢ 0
+      → lookupEnd m s late (find m (slotAt m s) key room (pre ++ (r ∷ post))) ≡ refuse m (trouble m l s key room pre r) (troubleValue m l s key room (trouble m l s key room pre r) r)
+  found-stop late pre r post ri a n nz =
+      let x = stops-first pre [] r post [] [] 0 start ri a n nz in
+      end-stopped late _ _ _ (subst (λ (u : Slot). find m u key room (pre ++ (r ∷ post)) ≡ stopped (trouble m l s key room pre r) (troubleValue m l s key room (trouble m l s key room pre r) r)) at-slot x)
+
+  -- ---- the two calls
+  pub lookup-passed : (cands : List ℕ) → All (λ r. r < rowsIn l) cands → lookupOut m s (whoIn l s) key cands room ≡ lookupEnd m s (each (ownRowTests m) (ownRows (slotAt m s .writes))) (find m (slotAt m s) key room (rowsToRead m (slotAt m s .writes) cands))
+  unfolding lookupOut
+  lookup-passed cands a = guard-passed (refuse m) (slotTests m s (whoIn l s) ++ each (candidateTests m) cands) _
+      (passed-join (slotTests m s (whoIn l s)) _ (slot-passed (rowsIn l) (cellsIn l) m (histOf l) gd s (whoIn l s) o)
+      (passed-each (candidateTests m) cands (all-map _ _ cands (λ r lt. (lt-leb (sizeR m) r (rw (gd .rows) lt), tt)) a)))
+
+  pub lookup-all-passed : lookupAllOut m s (whoIn l s) key room ≡ lookupEnd m s [] (find m (slotAt m s) key room (from 0 (sizeR m)))
+  unfolding lookupAllOut
+  lookup-all-passed = guard-passed (refuse m) (slotTests m s (whoIn l s)) _ (slot-passed (rowsIn l) (cellsIn l) m (histOf l) gd s (whoIn l s) o)
+
+  own-late : (ws : List Write) → All (Entered (rowsIn l) (cellsIn l) m (histOf l) gd s (whoIn l s) o) ws → Passed (each (ownRowTests m) (ownRows ws))
+  unfolding each
+  own-late [] a = tt
+  own-late (w ∷ ws) a = (lt-leb (sizeR m) (w .row) (rw (gd .rows) (a .0 .row-in)), own-late ws (a .1))
+
+  pub late-passed : Passed (each (ownRowTests m) (ownRows (slotAt m s .writes)))
+  late-passed = own-late (slotAt m s .writes) (all-entered (rowsIn l) (cellsIn l) m (histOf l) gd s (whoIn l s) o)
+
+  -- the rows that a lookup reads, by the log
+  own-has : (f : ℕ → Ver) (ws : List Write) (r : ℕ) → has r (ownRows ws) ≡ not (isNone (ownFind f ws r))
+  unfolding has ownFind
+  own-has f [] r = refl
+  own-has f (w ∷ ws) r = byEq (w .row) r
+      (λ e. rw (eq-eqb (w .row) r e, eq-eqb r (w .row) (sym e)) refl)
+      (λ e. rw (ne-eqb (w .row) r e, ne-eqb r (w .row) (λ y. e (sym y))) (own-has f ws r))
+
+  keep-same : (p q : ℕ → Bool) → ((r : ℕ) → p r ≡ q r) → (rows : List ℕ) → keep p rows ≡ keep q rows
+  unfolding keep
+  keep-same p q e [] = refl
+  keep-same p q e (r ∷ rows) = rw (e r, keep-same p q e rows) refl
+
+  pub rows-read : (cands : List ℕ) → rowsToRead m (slotAt m s .writes) cands ≡ rowsOf m l s cands
+  unfolding rowsToRead rowsOf
+  rows-read cands =
+      let q = gd .inv .opens s (view-open m s (whoIn l s) o) in
+      keep-same _ _ (λ r. ap (λ (b : Bool). has r cands || b)
+      (ap (λ (u : Slot). has r (ownRows (u .writes))) (sym at-slot) ∙ own-has (vers st) (t .writes) r ∙ ap (λ (x : Option Val). not (isNone x)) (q .owns r))) (from 0 (sizeR m))
+      ∙ ap (λ (k : ℕ). keep (λ r. has r cands || not (isNone (ownIn l s r))) (from 0 k)) (gd .rows)
+
+  pub rows-rising : (cands : List ℕ) → Rising 0 (rowsOf m l s cands) × All (λ r. r < rowsIn l) (rowsOf m l s cands)
+  unfolding rowsOf
+  rows-rising cands = (keep-rising _ 0 (from 0 (rowsIn l)) (from-rising 0 (rowsIn l)), keep-all _ _ (from 0 (rowsIn l)) (from-below (rowsIn l) 0 (rowsIn l) (omega arith)))
