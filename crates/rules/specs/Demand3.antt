@@ -1,35 +1,43 @@
 -- Demand 3: every reader, any history. Each theorem is of every reachable store: any lent memory, an accepted creation, any calls
 -- after it (Reachable.antt), with the log of those calls and their replies (History.antt). The functions are those that the public
 -- contracts cite, at any sizes z whose slots are wide enough.
-use mathlib.Core.Bool.{true, false}
-use mathlib.Core.List.{List, []}
-use mathlib.Core.Logic.{_≢_, _⊎_, inl, inr}
+use mathlib.Core.Bool.{true, false, _&&_}
+use mathlib.Core.List.{List, [], _++_, _∷_, append-nil}
+use mathlib.Core.Logic.{_≢_, _⊎_, inl, inr, ⊎-elim}
 use mathlib.Core.Option.{Option, none, some}
 use mathlib.Core.Path.{_≡_, refl, sym, _∙_, ap, subst}
-use Prim.Native.Nat.{ℕ, _<_, _≤_, suc}
+use Prim.Native.Nat.{ℕ, _<_, _≤_, suc, _+_}
 use native.Mathlib.Omega.{arith}
+use lib.Dec.{leb}
+use lib.ListN.{length}
+use lib.Seq.{append-snoc}
 use Rattle.rules.specs.declared.Answer.{Answer}
+use Rattle.rules.specs.declared.Answer.the-variants.{Listed}
 use Rattle.rules.specs.declared.ReadAnswer.{ReadAnswer}
 use Rattle.rules.specs.Sizes.{Sizes, Roomy}
-use Rattle.rules.specs.Numbers.{readNumber}
-use Rattle.rules.specs.Lists.{orElse}
-use Rattle.rules.specs.Versions.{versionAt}
+use Rattle.rules.specs.Numbers.{readNumber, numberOf}
+use Rattle.rules.specs.Lists.{orElse, keep, from}
+use Rattle.rules.specs.Versions.{at, versionAt}
 use Rattle.rules.specs.Slots.{Slot}
 use Rattle.rules.specs.Memory.{Mem, clock, sizeR, sizeN, slotAt, headAt}
 use Rattle.rules.specs.Chain.{ends, Chain}
 use Rattle.rules.specs.Snapshot.{horizon}
+use Rattle.rules.specs.Outcome.{refuse, Outcome}
 use Rattle.rules.specs.Read.{readOut}
 use Rattle.rules.specs.Commit.{commitOut}
 use Rattle.rules.specs.Vacuum.{reclaimable}
-use Rattle.rules.specs.Lookup.{ownRows}
+use Rattle.rules.specs.Lookup.{ownRows, lookupOut, lookupAllOut}
 use Rattle.rules.specs.Run.{Call, run, replyNumber, step}
 use Rattle.rules.specs.History.{Log, whoIn, rowsIn, answerOf, valueIn, Val, keyAnswer, GoesOn, logOf, viewIn, ownIn, cellsIn}
 use Rattle.rules.specs.Reachable.{Reachable, TooLong, ReadSetFull, times, everywhere, freeAt, chainAt, InOrder, behind, All, LockedFor, BaseOf, rowsRead, TrueStill, seesAt, Overtaken}
+use Rattle.rules.specs.Listing.{trouble, looksPast, needs, hit, NoTrouble, rowsOf, troubleValue}
+use Rattle.rules.specs.Theory.Cases.{byBool, byEq}
 use Rattle.rules.specs.Theory.View.{get-slots, viewOf}
 use Rattle.rules.specs.Theory.Places.{inb-zero}
 use Rattle.rules.specs.Theory.SlotSteps.{ids-differ}
 use Rattle.rules.specs.Theory.Reading.{none-some}
 use Rattle.rules.specs.Theory.Good.{Owner}
+use Rattle.rules.specs.Theory.LookupCall.{from-below}
 use Rattle.rules.specs.Theory.VacuumCall.{row-chain}
 use Rattle.rules.specs.Theory.Steps.{Sound, run-sound, histOf}
 use Rattle.rules.specs.Theory.Never.{never-damaged, open-slot}
@@ -38,6 +46,7 @@ use Rattle.rules.specs.Theory.OnePlace.{once-everywhere, inb-one, inb-no
 use Rattle.rules.specs.Theory.Continuing.{Bound, run-bound}
 use Rattle.rules.specs.Theory.Facts.{id-past, snapshot-order, head-live, later-superseded, bases-locked, locked-based, one-entry, one-record, records-true, reclaimed-unseen}
 use Rattle.rules.specs.Theory.CommitRefused.{commit-eight}
+use Rattle.rules.specs.Theory.LookupLaw.{rows-rising, lookup-passed, rows-read, found-all, late-passed, found-stop, lookup-all-passed, from-rising}
 
 module _ {z : Sizes} (rm : Roomy z) (m : Mem z) (l : Log) (rc : Reachable m l) where
   abbrev so : Sound m l
@@ -214,3 +223,83 @@ module _ {z : Sizes} (rm : Roomy z) (m : Mem z) (l : Log) (rc : Reachable m l) w
   -- a commit is refused with 8 only for a row that had no version when it was written, and has one now
   pub commit-refused-8-only-for-base-0 : (s id row : ℕ) → commitOut m s id .answer ≡ Answer.Refused 8 row → Overtaken m s row
   commit-refused-8-only-for-base-0 s id row e = commit-eight (rowsIn l) (cellsIn l) m (histOf l) so s id row e
+
+  -- ---- 6: lookups follow history
+
+  module _ (s key room : ℕ) (op : whoIn l s ≢ 0) where
+    -- one of the numbers that a row can stop a lookup with, or none
+    abbrev Known : ℕ → Type 0
+    Known k = (k ≡ 0) ⊎ ((k ≡ 10) ⊎ ((k ≡ 13) ⊎ (k ≡ 14)))
+
+    trouble-known : (before : List ℕ) (r : ℕ) → Known (trouble m l s key room before r)
+    unfolding trouble
+    trouble-known before r = byBool (looksPast m l s r) (λ e. rw e (inr (inl refl)))
+        (λ e. rw e (byBool (needs m l s r && leb (z .reads) (length (slotAt m s .recs) + length (keep (needs m l s) before))) (λ f. rw f (inr (inr (inl refl))))
+        (λ f. rw f (byBool (hit m l s key r && leb room (length (keep (hit m l s key) before))) (λ g. rw g (inr (inr (inr refl)))) (λ g. rw g (inl refl))))))
+
+    -- the first trouble among rows
+    pub record FirstTrouble (before rows : List ℕ) : Type 0 where
+      pub fine : List ℕ
+      pub row : ℕ
+      pub rest : List ℕ
+      pub split : rows ≡ fine ++ (row ∷ rest)
+      pub none-yet : NoTrouble m l s key room before fine
+      pub here : trouble m l s key room (before ++ fine) row ≢ 0
+
+    -- rows have no trouble, or there is a first
+    pub trouble-or-not : (rows before : List ℕ) → NoTrouble m l s key room before rows ⊎ FirstTrouble before rows
+    trouble-or-not [] before = inl tt
+    trouble-or-not (r ∷ rows) before = byEq (trouble m l s key room before r) 0
+        (λ e. ⊎-elim
+        (λ n. inl (e, n))
+        (λ f. inr (record { fine = r ∷ f .fine; row = f .row; rest = f .rest; split = ap (λ (x : List ℕ). r ∷ x) (f .split); none-yet = (e, f .none-yet); here = rw (← append-snoc before r (f .fine)) (f .here) }))
+        (trouble-or-not rows (before ++ (r ∷ []))))
+        (λ ne. inr (record { fine = []; row = r; rest = rows; split = refl; none-yet = tt; here = rw (append-nil before) ne }))
+
+    -- Where no row has trouble, the rows listed are exactly the candidate and own rows whose value by history is the key, ascending.
+    pub lookup-lists-exactly-the-rows-with-the-key : (cands : List ℕ) → All (λ r. r < rowsIn l) cands → NoTrouble m l s key room [] (rowsOf m l s cands)
+        → (lookupOut m s (whoIn l s) key cands room .answer ≡ Listed (length (keep (hit m l s key) (rowsOf m l s cands)))) × (lookupOut m s (whoIn l s) key cands room .front ≡ keep (hit m l s key) (rowsOf m l s cands))
+    lookup-lists-exactly-the-rows-with-the-key cands a n =
+        let r = rows-rising m l so s op key room cands in
+        rw (lookup-passed m l so s op key room cands a, rows-read m l so s op key room cands)
+        (found-all m l so s op key room _ (late-passed m l so s op key room) (rowsOf m l s cands) (r .0) (r .1) n)
+
+    -- Otherwise it is refused with the first trouble in row order: 10, 13 or 14, each exactly when `trouble` says so.
+    pub lookup-stops-at-the-first-trouble : (cands : List ℕ) → All (λ r. r < rowsIn l) cands → (f : FirstTrouble [] (rowsOf m l s cands))
+        → lookupOut m s (whoIn l s) key cands room ≡ refuse m (trouble m l s key room (f .fine) (f .row)) (troubleValue m l s key room (trouble m l s key room (f .fine) (f .row)) (f .row))
+    lookup-stops-at-the-first-trouble cands a f =
+        let r = rows-rising m l so s op key room cands in
+        let e = f .split in
+        lookup-passed m l so s op key room cands a
+        ∙ rw (rows-read m l so s op key room cands, e)
+        (found-stop m l so s op key room _ (f .fine) (f .row) (f .rest) (rw e at (r .0)) (rw e at (r .1)) (f .none-yet) (f .here))
+
+    -- the same of all rows
+    abbrev allRows : List ℕ
+    allRows = from 0 (rowsIn l)
+
+    pub lookup-all-lists-exactly-the-rows-with-the-key : NoTrouble m l s key room [] allRows
+        → (lookupAllOut m s (whoIn l s) key room .answer ≡ Listed (length (keep (hit m l s key) allRows))) × (lookupAllOut m s (whoIn l s) key room .front ≡ keep (hit m l s key) allRows)
+    lookup-all-lists-exactly-the-rows-with-the-key n =
+        rw (lookup-all-passed m l so s op key room, so .rows) (found-all m l so s op key room [] tt allRows (from-rising 0 (rowsIn l)) (from-below (rowsIn l) 0 (rowsIn l) (omega arith)) n)
+
+    pub lookup-all-stops-at-the-first-trouble : (f : FirstTrouble [] allRows)
+        → lookupAllOut m s (whoIn l s) key room ≡ refuse m (trouble m l s key room (f .fine) (f .row)) (troubleValue m l s key room (trouble m l s key room (f .fine) (f .row)) (f .row))
+    lookup-all-stops-at-the-first-trouble f =
+        let e = f .split in
+        lookup-all-passed m l so s op key room
+        ∙ rw (so .rows, e)
+        (found-stop m l so s op key room [] (f .fine) (f .row) (f .rest) (rw e at (from-rising 0 (rowsIn l))) (rw e at (from-below (rowsIn l) 0 (rowsIn l) (omega arith))) (f .none-yet) (f .here))
+
+    -- so a lookup by an open transaction of candidates in range is refused only with 10, 13 or 14
+    pub lookup-refused-only-with-10-13-14 : (cands : List ℕ) → All (λ r. r < rowsIn l) cands → Known (numberOf (lookupOut m s (whoIn l s) key cands room .answer))
+    lookup-refused-only-with-10-13-14 cands a = ⊎-elim
+        (λ n. inl (ap numberOf (lookup-lists-exactly-the-rows-with-the-key cands a n .0)))
+        (λ f. subst Known (sym (ap (λ (o : Outcome z Answer ℕ). numberOf (o .answer)) (lookup-stops-at-the-first-trouble cands a f))) (trouble-known (f .fine) (f .row)))
+        (trouble-or-not (rowsOf m l s cands) [])
+
+    pub lookup-all-refused-only-with-10-13-14 : Known (numberOf (lookupAllOut m s (whoIn l s) key room .answer))
+    lookup-all-refused-only-with-10-13-14 = ⊎-elim
+        (λ n. inl (ap numberOf (lookup-all-lists-exactly-the-rows-with-the-key n .0)))
+        (λ f. subst Known (sym (ap (λ (o : Outcome z Answer ℕ). numberOf (o .answer)) (lookup-all-stops-at-the-first-trouble f))) (trouble-known (f .fine) (f .row)))
+        (trouble-or-not allRows [])
