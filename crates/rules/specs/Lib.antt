@@ -23,3 +23,4 @@ pub mod Reachable
 pub mod Listing
 pub mod Theory
 pub mod Demand3
+pub mod ReaderRun
