@@ -12,7 +12,7 @@ use lib.Dec.{leb}
 use lib.ListN.{length}
 use lib.Seq.{append-snoc}
 use Rattle.rules.specs.declared.Answer.{Answer}
-use Rattle.rules.specs.declared.Answer.the-variants.{Listed}
+use Rattle.rules.specs.declared.Answer.the-variants.{Done, Listed}
 use Rattle.rules.specs.declared.ReadAnswer.{ReadAnswer}
 use Rattle.rules.specs.Sizes.{Sizes, Roomy}
 use Rattle.rules.specs.Numbers.{readNumber, numberOf}
@@ -22,7 +22,7 @@ use Rattle.rules.specs.Slots.{Slot}
 use Rattle.rules.specs.Memory.{Mem, clock, sizeR, sizeN, slotAt, headAt}
 use Rattle.rules.specs.Chain.{ends, Chain}
 use Rattle.rules.specs.Snapshot.{horizon}
-use Rattle.rules.specs.Outcome.{refuse, Outcome}
+use Rattle.rules.specs.Outcome.{refuse, slotTests, Outcome}
 use Rattle.rules.specs.Read.{readOut}
 use Rattle.rules.specs.Commit.{commitOut}
 use Rattle.rules.specs.Vacuum.{reclaimable}
@@ -31,12 +31,14 @@ use Rattle.rules.specs.Run.{Call, run, replyNumber, step}
 use Rattle.rules.specs.History.{Log, whoIn, rowsIn, answerOf, valueIn, Val, keyAnswer, GoesOn, logOf, viewIn, ownIn, cellsIn}
 use Rattle.rules.specs.Reachable.{Reachable, TooLong, ReadSetFull, times, everywhere, freeAt, chainAt, InOrder, behind, All, LockedFor, BaseOf, rowsRead, TrueStill, seesAt, Overtaken}
 use Rattle.rules.specs.Listing.{trouble, looksPast, needs, hit, NoTrouble, rowsOf, troubleValue}
+use Rattle.rules.specs.Validation.{commit-tested, accepted-commit-read-what-stands}
 use Rattle.rules.specs.Theory.Cases.{byBool, byEq}
 use Rattle.rules.specs.Theory.View.{get-slots, viewOf}
 use Rattle.rules.specs.Theory.Places.{inb-zero}
 use Rattle.rules.specs.Theory.SlotSteps.{ids-differ}
 use Rattle.rules.specs.Theory.Reading.{none-some}
-use Rattle.rules.specs.Theory.Good.{Owner}
+use Rattle.rules.specs.Theory.Guard.{passed-split}
+use Rattle.rules.specs.Theory.Good.{Owner, owner}
 use Rattle.rules.specs.Theory.LookupCall.{from-below}
 use Rattle.rules.specs.Theory.VacuumCall.{row-chain}
 use Rattle.rules.specs.Theory.Steps.{Sound, run-sound, histOf}
@@ -47,6 +49,7 @@ use Rattle.rules.specs.Theory.Continuing.{Bound, run-bound}
 use Rattle.rules.specs.Theory.Facts.{id-past, snapshot-order, head-live, later-superseded, bases-locked, locked-based, one-entry, one-record, records-true, reclaimed-unseen}
 use Rattle.rules.specs.Theory.CommitRefused.{commit-eight}
 use Rattle.rules.specs.Theory.LookupLaw.{rows-rising, lookup-passed, rows-read, found-all, late-passed, found-stop, lookup-all-passed, from-rising}
+use Rattle.rules.specs.Theory.Validated.{standing-are-heads}
 
 module _ {z : Sizes} (rm : Roomy z) (m : Mem z) (l : Log) (rc : Reachable m l) where
   abbrev so : Sound m l
@@ -223,6 +226,11 @@ module _ {z : Sizes} (rm : Roomy z) (m : Mem z) (l : Log) (rc : Reachable m l) w
   -- a commit is refused with 8 only for a row that had no version when it was written, and has one now
   pub commit-refused-8-only-for-base-0 : (s id row : ℕ) → commitOut m s id .answer ≡ Answer.Refused 8 row → Overtaken m s row
   commit-refused-8-only-for-base-0 s id row e = commit-eight (rowsIn l) (cellsIn l) m (histOf l) so s id row e
+
+  -- an accepted commit of a transaction with writes: every version that it read is its row's head still, the last commit of the row
+  pub accepted-commit-read-the-last-commits : (s id : ℕ) → commitOut m s id .answer ≡ Done → slotAt m s .writes ≢ [] → All (λ q. q .cell ≡ headAt m (q .row)) (slotAt m s .recs)
+  accepted-commit-read-the-last-commits s id e ne =
+      standing-are-heads (rowsIn l) (cellsIn l) m (histOf l) so s id (owner m s id (passed-split (slotTests m s id) _ (commit-tested m s id e) .0)) (accepted-commit-read-what-stands m s id e ne)
 
   -- ---- 6: lookups follow history
 

@@ -22,5 +22,6 @@ pub mod History
 pub mod Reachable
 pub mod Listing
 pub mod Theory
+pub mod Validation
 pub mod Demand3
 pub mod ReaderRun

@@ -42,3 +42,4 @@ pub mod Continuing
 pub mod Facts
 pub mod CommitRefused
 pub mod LookupLaw
+pub mod Validated

@@ -78,7 +78,7 @@ taken-order k t a =
       early = a .early;
     }
 
-getD-past : (l : List (List ℕ)) (i : ℕ) → length l ≤ i → getD l i [] ≡ []
+pub getD-past : (l : List (List ℕ)) (i : ℕ) → length l ≤ i → getD l i [] ≡ []
 getD-past [] i h = refl
 getD-past (x ∷ l) zero h = absurd (omega arith)
 getD-past (x ∷ l) (suc i) h = getD-past l i (le-of-suc-le-suc h)

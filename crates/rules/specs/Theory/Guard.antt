@@ -86,3 +86,8 @@ cause-each k x f P (a ∷ l) h c = ⊎-elim
     (λ y. (a, inl refl, h .0, y))
     (λ y. let r = cause-each k x f P l (h .1) (y .1) in (r .0, inr (r .1), r .2, r .3))
     (cause-split k x (f a) (each f l) c)
+
+pub passed-all : {A : Type 0} (f : A → List Test) (l : List A) → Passed (each f l) → All (λ a. Passed (f a)) l
+unfolding each
+passed-all f [] p = tt
+passed-all f (a ∷ l) p = let q = passed-split (f a) (each f l) p in (q .0, passed-all f l (q .1))
