@@ -23,5 +23,6 @@ pub mod Reachable
 pub mod Listing
 pub mod Theory
 pub mod Validation
+pub mod WalkLimit
 pub mod Demand3
 pub mod ReaderRun
