@@ -18,6 +18,7 @@ pub mod Vacuum
 pub mod Lookup
 pub mod Run
 pub mod WholeRun
+pub mod Refusals
 pub mod History
 pub mod Reachable
 pub mod Listing

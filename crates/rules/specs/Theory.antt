@@ -22,7 +22,6 @@ pub mod Chains
 pub mod Reading
 pub mod Guard
 pub mod Same
-pub mod Refusals
 pub mod Good
 pub mod BeginCall
 pub mod CommitCall
@@ -43,3 +42,4 @@ pub mod Facts
 pub mod CommitRefused
 pub mod LookupLaw
 pub mod Validated
+pub mod RecordsStay

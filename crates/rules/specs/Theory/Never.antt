@@ -27,8 +27,9 @@ use Rattle.rules.specs.Write.{writeNow, headTests, writeOut}
 use Rattle.rules.specs.Commit.{recordTests, commitTests, baseTests, newTests, commitOut}
 use Rattle.rules.specs.Abort.{news, abortOut, abortTests}
 use Rattle.rules.specs.Vacuum.{vacuumNow, swept, vacuumOut}
-use Rattle.rules.specs.Lookup.{Found, stopped, got, listRow, isKey, findRow, find, lookupEnd, ownRowTests, ownRows, candidateTests, lookupOut, lookupAllOut}
+use Rattle.rules.specs.Lookup.{Found, stopped, got, listRow, isKey, find, findRow, lookupEnd, ownRowTests, ownRows, candidateTests, lookupOut, lookupAllOut}
 use Rattle.rules.specs.Run.{write, read, begin, commit, abort, vacuum, lookup, lookupAll, create, Call, replyNumber, step}
+use Rattle.rules.specs.Refusals.{answer-plain}
 use Rattle.rules.specs.Reachable.{All}
 use Rattle.rules.specs.Theory.Cases.{byEq, byBool}
 use Rattle.rules.specs.Theory.View.{viewOf, get-slots}
@@ -40,7 +41,6 @@ use Rattle.rules.specs.Theory.SlotSteps.{open-in}
 use Rattle.rules.specs.Theory.Locks.{Holds}
 use Rattle.rules.specs.Theory.Reading.{Own, Right, own-write, no-version, old-version, new-version, long, full, read-right, own-is}
 use Rattle.rules.specs.Theory.Guard.{Passed, Safe, safe-append, safe-passed, passed-join, guard-safe, passed-split, safe-each}
-use Rattle.rules.specs.Theory.Refusals.{answer-plain}
 use Rattle.rules.specs.Theory.Good.{Good, Owner, view-open, owner}
 use Rattle.rules.specs.Theory.BeginCall.{slots-length}
 use Rattle.rules.specs.Theory.LookupCall.{rows-below, all-rows-below}

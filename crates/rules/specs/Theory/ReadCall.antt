@@ -63,11 +63,14 @@ module _ {z : Sizes} (R N : ℕ) (m : Mem z) (h : Hist) (gd : Good R N m h) (s i
   end-good (blocked k x) a = gd
   end-good (sees c l) a = recs-good l a
 
-  read-now : (row : ℕ) → row < sizeR m → Good R N (readEnd m s (readAt m (slotAt m s) (slotAt m s .recs) row) .after) h
-  read-now row lt =
-      end-good _ (subst (λ (t : Slot). Noted z st (gd .ghost) s (slotV st s .recs) (readAt m t (t .recs) row)) (get-slots z (m .slots) s (o .slot))
+  pub noted-at : (row : ℕ) → row < sizeR m → Noted z st (gd .ghost) s (slotV st s .recs) (readAt m (slotAt m s) (slotAt m s .recs) row)
+  noted-at row lt =
+      subst (λ (t : Slot). Noted z st (gd .ghost) s (slotV st s .recs) (readAt m t (t .recs) row)) (get-slots z (m .slots) s (o .slot))
       (subst (λ (k : ℕ). Noted z st (gd .ghost) s (slotV st s .recs) (readRow z k (versionAt (m .cells)) (headAt m row) (slotV st s) (slotV st s .recs) row)) (sym (gd .cells))
-      (noted z R N st (gd .ghost) h s row (gd .inv) (view-open m s id o) (rw (gd .rows) at lt) (slotV st s .recs) recs-right)))
+      (noted z R N st (gd .ghost) h s row (gd .inv) (view-open m s id o) (rw (gd .rows) at lt) (slotV st s .recs) recs-right))
+
+  read-now : (row : ℕ) → row < sizeR m → Good R N (readEnd m s (readAt m (slotAt m s) (slotAt m s .recs) row) .after) h
+  read-now row lt = end-good _ (noted-at row lt)
 
 pub read-good : {z : Sizes} (R N : ℕ) (m : Mem z) (h : Hist) → Good R N m h → (s id row : ℕ) → Good R N (readOut m s id row .after) h
 unfolding readOut

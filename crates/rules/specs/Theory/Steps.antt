@@ -1,7 +1,7 @@
 -- Every call keeps what holds, with the log for its history: from an accepted creation on, in any sequence, refused calls included.
-use mathlib.Core.Bool.{cond, Bool, true, false, _&&_, not}
+use mathlib.Core.Bool.{cond, Bool, true, false, not}
 use mathlib.Core.List.{[], _∷_, List, _++_}
-use mathlib.Core.Option.{Option, some, none}
+use mathlib.Core.Option.{none, Option}
 use mathlib.Core.Path.{_≡_, refl, sym}
 use Prim.Native.Nat.{ℕ, suc}
 use lib.Dec.{eqb}
@@ -19,7 +19,7 @@ use Rattle.rules.specs.Write.{writeOut}
 use Rattle.rules.specs.Commit.{commitOut}
 use Rattle.rules.specs.Abort.{abortOut}
 use Rattle.rules.specs.Run.{commit, write, begin, abort, create, step, Call, read, vacuum, lookup, lookupAll, run}
-use Rattle.rules.specs.History.{Log, lastIn, whoIn, viewIn, ownIn, rowsIn, cellsIn, wrote, Val, began, said, ended, commits, writesIn, made, committed, ifBegun, ifWrote, ifDone, logged, logOf}
+use Rattle.rules.specs.History.{Log, lastIn, whoIn, viewIn, ownIn, rowsIn, cellsIn, began, wrote, said, ended, commits, Val, writesIn, made, committed, ifBegun, ifWrote, ifDone, logged, logOf}
 use Rattle.rules.specs.Theory.Cases.{byBool}
 use Rattle.rules.specs.Theory.View.{viewOf, upd}
 use Rattle.rules.specs.Theory.Inv.{Hist}
@@ -58,10 +58,6 @@ rehist-good R N m h h′ el ew ev eo gd = record {
 cond-at : {A : Type 0} (b : Bool) (f g : ℕ → A) (r : ℕ) → cond b f g r ≡ cond b (f r) (g r)
 cond-at true f g r = refl
 cond-at false f g r = refl
-
-own-wrote : (b c : Bool) (v : Val) (o p : Option Val) → cond (b && c) (some v) (cond b o p) ≡ cond b (cond c (some v) o) p
-own-wrote true c v o p = refl
-own-wrote false c v o p = refl
 
 module _ {z : Sizes} (R N : ℕ) (m : Mem z) (l : Log) where
   log-began : (s id : ℕ) → Good R N m (histBegin (histOf l) s id) → Good R N m (histOf (began s id ∷ l))
