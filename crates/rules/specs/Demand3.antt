@@ -2,7 +2,7 @@
 -- after it (Reachable.antt), with the log of those calls and their replies (History.antt). The functions are those that the public
 -- contracts cite, at any sizes z whose slots are wide enough.
 use mathlib.Core.Bool.{true, false, _&&_}
-use mathlib.Core.List.{List, [], _++_, _∷_, append-nil}
+use mathlib.Core.List.{List, [], _∷_, _++_, append-nil}
 use mathlib.Core.Logic.{_≢_, _⊎_, inl, inr, ⊎-elim}
 use mathlib.Core.Option.{Option, none, some}
 use mathlib.Core.Path.{_≡_, refl, sym, _∙_, ap, subst}
@@ -18,7 +18,7 @@ use Rattle.rules.specs.Sizes.{Sizes, Roomy}
 use Rattle.rules.specs.Numbers.{readNumber, numberOf}
 use Rattle.rules.specs.Lists.{orElse, keep, from}
 use Rattle.rules.specs.Versions.{at, versionAt}
-use Rattle.rules.specs.Slots.{Slot}
+use Rattle.rules.specs.Slots.{Slot, Rec}
 use Rattle.rules.specs.Memory.{Mem, clock, sizeR, sizeN, slotAt, headAt}
 use Rattle.rules.specs.Chain.{ends, Chain}
 use Rattle.rules.specs.Snapshot.{horizon}
@@ -29,7 +29,7 @@ use Rattle.rules.specs.Vacuum.{reclaimable}
 use Rattle.rules.specs.Lookup.{ownRows, lookupOut, lookupAllOut}
 use Rattle.rules.specs.Run.{Call, run, replyNumber, step}
 use Rattle.rules.specs.History.{Log, whoIn, rowsIn, answerOf, valueIn, Val, keyAnswer, GoesOn, logOf, viewIn, ownIn, cellsIn}
-use Rattle.rules.specs.Reachable.{Reachable, TooLong, ReadSetFull, times, everywhere, freeAt, chainAt, InOrder, behind, All, LockedFor, BaseOf, rowsRead, TrueStill, seesAt, Overtaken}
+use Rattle.rules.specs.Reachable.{Reachable, In, TooLong, ReadSetFull, times, everywhere, freeAt, chainAt, InOrder, behind, All, LockedFor, BaseOf, rowsRead, TrueStill, seesAt, Overtaken}
 use Rattle.rules.specs.Listing.{trouble, looksPast, needs, hit, NoTrouble, rowsOf, troubleValue}
 use Rattle.rules.specs.Validation.{commit-tested, accepted-commit-read-what-stands}
 use Rattle.rules.specs.Theory.Cases.{byBool, byEq}
@@ -50,6 +50,7 @@ use Rattle.rules.specs.Theory.Facts.{id-past, snapshot-order, head-live,
 use Rattle.rules.specs.Theory.CommitRefused.{commit-eight}
 use Rattle.rules.specs.Theory.LookupLaw.{rows-rising, lookup-passed, rows-read, found-all, late-passed, found-stop, lookup-all-passed, from-rising}
 use Rattle.rules.specs.Theory.Validated.{standing-are-heads}
+use Rattle.rules.specs.Theory.RecordsStay.{run-keeps}
 
 module _ {z : Sizes} (rm : Roomy z) (m : Mem z) (l : Log) (rc : Reachable m l) where
   abbrev so : Sound m l
@@ -218,6 +219,23 @@ module _ {z : Sizes} (rm : Roomy z) (m : Mem z) (l : Log) (rc : Reachable m l) w
   -- was not reused since, and "recorded already" by the cell alone is right.
   pub recorded-cell-is-never-reused : (s : ℕ) → whoIn l s ≢ 0 → All (TrueStill m s) (slotAt m s .recs)
   recorded-cell-is-never-reused s op = records-true (rowsIn l) (cellsIn l) m (histOf l) so s (whoIn l s) (owns s op)
+
+  -- and a record stands as long as its reader is open: whatever calls come after, it is among the reader's records still, its cell in its
+  -- row's chain with its xmin
+  all-in : (P : Rec → Type 0) (k : List Rec) (q : Rec) → All P k → In q k → P q
+  all-in P [] q a i = absurd i
+  all-in P (x ∷ k) q a (inl e) = subst P (sym e) (a .0)
+  all-in P (x ∷ k) q a (inr i) = all-in P k q (a .1) i
+
+  pub record-stays-true-while-its-reader-is-open : (s : ℕ) → whoIn l s ≢ 0 → (cs : List Call) → StillOpen s cs → (q : Rec) → In q (slotAt m s .recs)
+      → In q (slotAt (run cs m .1) s .recs) × TrueStill (run cs m .1) s q
+  record-stays-true-while-its-reader-is-open s op cs k q i =
+      let past = subst (λ (x : ℕ). x < clock m) (so .inv .known s) (so .inv .opens s (rw (so .inv .known s) op) .snap .begun) in
+      let stays = run-keeps z s (whoIn l s) op cs m l so past (k .going) (k .still) q i in
+      let so′ = run-sound cs m l so in
+      let l′ = logOf cs (run cs m .0) l in
+      let o = open-slot (rowsIn l′) (cellsIn l′) (run cs m .1) (histOf l′) so′ s (whoIn l s) op (k .still) in
+      (stays, all-in (TrueStill (run cs m .1) s) (slotAt (run cs m .1) s .recs) q (records-true (rowsIn l′) (cellsIn l′) (run cs m .1) (histOf l′) so′ s (whoIn l s) o) stays)
 
   -- what vacuum may reclaim, with any request, no open reader sees: for all open snapshots at once
   pub vacuum-removes-nothing-that-a-reader-sees : (request c : ℕ) → reclaimable (horizon m request) (versionAt (m .cells) c) ≡ true → (s : ℕ) → whoIn l s ≢ 0 → seesAt m s c ≡ false

@@ -93,7 +93,7 @@ module _ (s id : ℕ) (nz : id ≢ 0) (saw : ℕ → Option Val) (R : ℕ) where
         go = guardCase (λ (o : Outcome z Answer ℕ). ifDone (o .answer) true false ≡ false → Bound (o .after) (ifDone (o .answer) (made n r ∷ []) l)) (refuse m) _ _ (λ k x _. b)
             (λ _ q. absurd (true≢false q))
 
-    step-bound : (c : Call) (m : Mem z) (l : Log) → Shaped m → restarts c (step c m .reply) ≡ false → Bound m l → Bound (step c m .after) (logged c (step c m .reply) l)
+    pub step-bound : (c : Call) (m : Mem z) (l : Log) → Shaped m → restarts c (step c m .reply) ≡ false → Bound m l → Bound (step c m .after) (logged c (step c m .reply) l)
     unfolding step logged restarts
     step-bound (create n r) m l sh e b = create-bound m n r l e b
     step-bound begin m l sh e b = begin-bound m l sh b

@@ -1,5 +1,5 @@
 -- The records that a read adds are right: their cells stand in their rows' chains and are seen; one record a row; within the limit.
-use mathlib.Core.Bool.{true, false, false≢true}
+use mathlib.Core.Bool.{true, false≢true, false}
 use mathlib.Core.List.{List, _++_, [], _∷_, append-nil}
 use mathlib.Core.Logic.{_≢_}
 use mathlib.Core.Option.{Option, none, some}

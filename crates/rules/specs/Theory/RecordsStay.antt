@@ -6,10 +6,11 @@ use mathlib.Core.Option.{Option, some, none}
 use mathlib.Core.Path.{_≡_, subst, sym, ap, _∙_, refl}
 use Prim.Native.Nat.{_+_, ℕ, _<_, _≤_}
 use native.Mathlib.Omega.{arith}
-use lib.ListN.{getD, set, length, length-append}
+use lib.ListN.{getD, set, length, length-append, take}
 use lib.Seq.{getD-set-other, getD-set-same}
-use borrow.Author.Tests.{leb-false, eq-eqb}
+use borrow.Author.Tests.{leb-false, eq-eqb, ne-eqb}
 use Rattle.rules.specs.declared.Answer.{Answer}
+use Rattle.rules.specs.declared.Answer.the-variants.{Done, Begun, Wrote, Vacuumed, Listed}
 use Rattle.rules.specs.declared.ReadAnswer.{ReadAnswer}
 use Rattle.rules.specs.Sizes.{Sizes, READS, WRITES}
 use Rattle.rules.specs.Lists.{keep}
@@ -17,7 +18,8 @@ use Rattle.rules.specs.Versions.{at, versionAt}
 use Rattle.rules.specs.Slots.{Rec, slotOf, Slot, addRecs, write, Write, emptied}
 use Rattle.rules.specs.Memory.{Mem, withSlot, wordsAt, sizeR, headAt, free, slotAt, clock}
 use Rattle.rules.specs.Chain.{After, goesOn, broken, ends}
-use Rattle.rules.specs.Outcome.{each, Outcome, refuseRead, refuse, slotTests, Test, rowTest}
+use Rattle.rules.specs.Snapshot.{vacant}
+use Rattle.rules.specs.Outcome.{each, Outcome, refuse, refuseRead, slotTests, Test, rowTest}
 use Rattle.rules.specs.Create.{createOut}
 use Rattle.rules.specs.Begin.{beginOut}
 use Rattle.rules.specs.Read.{Sight, readEnd, blocked, sees, readOut}
@@ -26,8 +28,8 @@ use Rattle.rules.specs.Commit.{commitOut}
 use Rattle.rules.specs.Abort.{abortOut, news}
 use Rattle.rules.specs.Vacuum.{swept, vacuumNow, reclaimable, vacuumOut}
 use Rattle.rules.specs.Lookup.{Found, lookupEnd, stopped, got, lookupOut, candidateTests, lookupAllOut}
-use Rattle.rules.specs.Run.{read, vacuum, lookup, lookupAll, commit, abort, begin, create, step, Call}
-use Rattle.rules.specs.History.{ended, Log, whoIn, began, ifDone, ifBegun, restarts, logged, rowsIn, cellsIn}
+use Rattle.rules.specs.Run.{read, vacuum, lookup, lookupAll, commit, abort, begin, create, step, Call, run}
+use Rattle.rules.specs.History.{ended, Log, whoIn, began, ifDone, ifBegun, restarts, logged, rowsIn, cellsIn, wrote, Val, ifWrote, made, writesIn, viewIn, GoesOn, logOf}
 use Rattle.rules.specs.Reachable.{In}
 use Rattle.rules.specs.Theory.Cases.{byEq}
 use Rattle.rules.specs.Theory.SlotLaws.{slot-recs, slot-write}
@@ -40,7 +42,8 @@ use Rattle.rules.specs.Theory.Good.{Good, Owner, owner}
 use Rattle.rules.specs.Theory.Recording.{Rightly, Noted}
 use Rattle.rules.specs.Theory.ReadCall.{recs-count, noted-at}
 use Rattle.rules.specs.Theory.LookupCall.{Fine, found-fine, rows-below, all-rows-below}
-use Rattle.rules.specs.Theory.Steps.{Sound, histOf}
+use Rattle.rules.specs.Theory.Steps.{Sound, histOf, commits-who, step-sound}
+use Rattle.rules.specs.Theory.Continuing.{step-bound}
 use Rattle.rules.specs.Run as Run
 
 in-front : {A : Type 0} (q : A) (a b : List A) → In q a → In q (a ++ b)
@@ -178,3 +181,68 @@ module _ (z : Sizes) (s : ℕ) where
     step-keeps (vacuum row request room) m l so lt e w = vacuum-keeps (rowsIn l) (cellsIn l) m (histOf l) so row request room
     step-keeps (lookup a i key cands room) m l so lt e w = lookup-keeps (rowsIn l) (cellsIn l) m (histOf l) so a i key cands room
     step-keeps (lookupAll a i key room) m l so lt e w = lookup-all-keeps (rowsIn l) (cellsIn l) m (histOf l) so a i key room
+
+    -- who has the id after a call had it before
+    back-ended : (l k : Log) (a : ℕ) (x : Answer) → (whoIn k s ≡ id → whoIn l s ≡ id) → whoIn (ifDone x (ended a ∷ k) l) s ≡ id → whoIn l s ≡ id
+    unfolding whoIn
+    back-ended l k a Done f e = f (sym (rw (ne-eqb s a (who-ended l k a e)) refl) ∙ e)
+    back-ended l k a (Begun i j) f e = e
+    back-ended l k a (Wrote c) f e = e
+    back-ended l k a (Vacuumed i j) f e = e
+    back-ended l k a (Listed i) f e = e
+    back-ended l k a (Answer.Refused i j) f e = e
+
+    back-wrote : (l : Log) (a row : ℕ) (v : Val) (x : Answer) → whoIn (ifWrote x (wrote a row v ∷ l) l) s ≡ id → whoIn l s ≡ id
+    unfolding whoIn
+    back-wrote l a row v Done e = e
+    back-wrote l a row v (Begun i j) e = e
+    back-wrote l a row v (Wrote c) e = e
+    back-wrote l a row v (Vacuumed i j) e = e
+    back-wrote l a row v (Listed i) e = e
+    back-wrote l a row v (Answer.Refused i j) e = e
+
+    back-began : (l : Log) (a i : ℕ) → i ≢ id → whoIn (began a i ∷ l) s ≡ id → whoIn l s ≡ id
+    unfolding whoIn
+    back-began l a i ne e = rw (ne-eqb s a (who-began l a i ne e)) at e
+
+    back-begin : (m : Mem z) (l : Log) → id < clock m → whoIn (ifBegun (beginOut m .answer) (λ a i. began a i ∷ l) l) s ≡ id → whoIn l s ≡ id
+    unfolding beginOut
+    back-begin m l lt = guardCase (λ (o : Outcome z Answer ℕ). whoIn (ifBegun (o .answer) (λ a i. began a i ∷ l) l) s ≡ id → whoIn l s ≡ id) (refuse m) _ _ (λ n x e. e)
+        (λ _ e. back-began l (vacant (take (z .slots) (m .slots))) (clock m) (omega arith) e)
+
+    back-create : (m : Mem z) (n r : ℕ) (l : Log) → ifDone (createOut m n r .answer) true false ≡ false → whoIn (ifDone (createOut m n r .answer) (made n r ∷ []) l) s ≡ id → whoIn l s ≡ id
+    unfolding createOut
+    back-create m n r l = guardCase (λ (o : Outcome z Answer ℕ). ifDone (o .answer) true false ≡ false → whoIn (ifDone (o .answer) (made n r ∷ []) l) s ≡ id → whoIn l s ≡ id) (refuse m) _ _ (λ k x _ e. e) (λ _ e. absurd (true≢false e))
+
+    step-back : (c : Call) (m : Mem z) (l : Log) → id < clock m → restarts c (step c m .reply) ≡ false → whoIn (logged c (step c m .reply) l) s ≡ id → whoIn l s ≡ id
+    unfolding step logged restarts
+    step-back (create n r) m l lt e w = back-create m n r l e w
+    step-back begin m l lt e w = back-begin m l lt w
+    step-back (read a i row) m l lt e w = w
+    step-back (Run.write a i row v) m l lt e w = back-wrote l a row _ (writeOut m a i row v .answer) w
+    step-back (commit a i) m l lt e w = back-ended l _ a (commitOut m a i .answer) (λ y. sym (commits-who l (writesIn l a) s) ∙ y) w
+    step-back (abort a i) m l lt e w = back-ended l l a (abortOut m a i .answer) (λ y. y) w
+    step-back (vacuum row request room) m l lt e w = w
+    step-back (lookup a i key cands room) m l lt e w = w
+    step-back (lookupAll a i key room) m l lt e w = w
+
+    -- the id is in the past after each call
+    step-past : (c : Call) (m : Mem z) (l : Log) → Sound m l → id < clock m → restarts c (step c m .reply) ≡ false → id < clock (step c m .after)
+    step-past c m l so lt e = step-bound s id nz (viewIn l s) (rowsIn l) c m l (so .shaped) e (record { past = lt; rows = refl; same = λ _ r. refl }) .past
+
+    run-back : (cs : List Call) (m : Mem z) (l : Log) → Sound m l → id < clock m → GoesOn cs (run cs m .0) → whoIn (logOf cs (run cs m .0) l) s ≡ id → whoIn l s ≡ id
+    unfolding run logOf
+    run-back [] m l so lt g w = w
+    run-back (c ∷ cs) m l so lt g w = step-back c m l lt (g .0) (run-back cs (step c m .after) (logged c (step c m .reply) l) (step-sound c m l so) (step-past c m l so lt (g .0)) (g .1) w)
+
+    pub run-keeps : (cs : List Call) (m : Mem z) (l : Log) → Sound m l → id < clock m → GoesOn cs (run cs m .0) → whoIn (logOf cs (run cs m .0) l) s ≡ id → Keeps m (run cs m .1)
+    unfolding run logOf
+    run-keeps [] m l so lt g w = λ q i. i
+    run-keeps (c ∷ cs) m l so lt g w =
+        let m₁ = step c m .after in
+        let l₁ = logged c (step c m .reply) l in
+        let so₁ = step-sound c m l so in
+        let lt₁ = step-past c m l so lt (g .0) in
+        let a = step-keeps c m l so lt (g .0) (run-back cs m₁ l₁ so₁ lt₁ (g .1) w) in
+        let b = run-keeps cs m₁ l₁ so₁ lt₁ (g .1) w in
+        λ q i. b q (a q i)
