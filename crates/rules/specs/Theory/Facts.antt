@@ -109,7 +109,7 @@ rec-once r (q ∷ l) a = byEq r (q .row)
     (λ y. omega (arith, cnt-other r (q .row) (rowsRead l) y, rec-once r l (a .1)))
 
 -- the base of a held entry
-base-held : (st : View) (id : ℕ) (c : ℕ) (ws : List Write) (f : ℕ → Ver) (R t : ℕ) → Entries f R t ws → All (Holds st id) ws → c ≢ 0 → cnt c (basesOf ws) ≢ 0 → (r : ℕ) × (r < R) × (st .heads r ≡ c)
+base-held : (st : View) (id : Slot) (c : ℕ) (ws : List Write) (f : ℕ → Ver) (R t : ℕ) → Entries f R t ws → All (Holds st id) ws → c ≢ 0 → cnt c (basesOf ws) ≢ 0 → (r : ℕ) × (r < R) × (st .heads r ≡ c)
 unfolding cnt
 base-held st id c [] f R t e a nz m = absurd (m refl)
 base-held st id c (w ∷ l) f R t e a nz m = byEq c (w .base)
@@ -156,7 +156,7 @@ module _ {z : Sizes} (R N : ℕ) (m : Mem z) (h : Hist) (gd : Good R N m h) wher
 
   -- c is a base: then it is a head
   based-head : (c : ℕ) → c ≢ 0 → Based st c → (r : ℕ) × (r < R) × (st .heads r ≡ c)
-  based-head c nz b = base-held st (slotV st (b .slot) .id) c (slotV st (b .slot) .writes) (vers st) R (slotV st (b .slot) .id) ((iv .opens (b .slot) (b .taken)) .entries) (gd .locks .held (b .slot) (b .taken)) nz (b .among)
+  based-head c nz b = base-held st (slotV st (b .slot)) c (slotV st (b .slot) .writes) (vers st) R (slotV st (b .slot) .id) ((iv .opens (b .slot) (b .taken)) .entries) (gd .locks .held (b .slot) (b .taken)) nz (b .among)
 
   later-go : (row : ℕ) (l : List ℕ) → rowOf row ≡ l → row < R → (c : ℕ) → cnt c (behind l) ≢ 0 → (versionAt (m .cells) c .xmax .0 ≢ 0) × (versionAt (m .cells) c .locked ≡ 0)
   unfolding verOf cnt

@@ -121,7 +121,7 @@ module _ {z : Sizes} (R N : ℕ) (m : Mem z) (h : Hist) (gd : Good R N m h) wher
       pub base-in : w .base ≤ sizeN m
       pub new-in : not (isCell (sizeN m) (w .new)) ≡ false
 
-    entered : (f : ℕ → Ver) (k : ℕ) (ws : List Write) → Entries f R k ws → All (Holds (viewOf m) (t .id)) ws → ((c : ℕ) → cnt c (news ws) ≢ 0 → inSlot c t ≢ 0) → All Entered ws
+    entered : (f : ℕ → Ver) (k : ℕ) (ws : List Write) → Entries f R k ws → All (Holds (viewOf m) t) ws → ((c : ℕ) → cnt c (news ws) ≢ 0 → inSlot c t ≢ 0) → All Entered ws
     entered f k [] en hs sub = tt
     entered f k (w ∷ l) en hs sub =
         let c = own-cell R (suc N) (viewOf m) (gd .ghost) h s (w .new) (gd .inv) (sub (w .new) (λ y. cnt-head (w .new) (w .new) (news l) y refl)) in (

@@ -16,10 +16,10 @@ use Rattle.rules.specs.Theory.Shape.{slots-ok}
 use Rattle.rules.specs.Theory.View.{View, viewOf, get-slots}
 use Rattle.rules.specs.Theory.Effects.{slotV}
 use Rattle.rules.specs.Theory.Bridge.{view-recs}
-use Rattle.rules.specs.Theory.Inv.{Hist}
+use Rattle.rules.specs.Theory.Inv.{Hist, all-map}
 use Rattle.rules.specs.Theory.SlotSteps.{open-in}
 use Rattle.rules.specs.Theory.Reslot.{reslot-inv}
-use Rattle.rules.specs.Theory.Locks.{locks-put}
+use Rattle.rules.specs.Theory.Locks.{locks-put, held-refilled}
 use Rattle.rules.specs.Theory.Guard.{guardCase, passed-split}
 use Rattle.rules.specs.Theory.Same.{Same, same-shaped}
 use Rattle.rules.specs.Theory.Good.{Good, Owner, view-open, owner}
@@ -55,7 +55,7 @@ module _ {z : Sizes} (R N : ℕ) (m : Mem z) (h : Hist) (gd : Good R N m h) (s i
         cells = gd .cells;
         ghost = gd .ghost;
         inv = rw vw (reslot-inv R (suc N) st (gd .ghost) h [] [] s (t .writes) (t .recs ++ l) (h .own) iv op (λ x. refl) (q .owns) (λ j r′ ne. refl) (q .entries) (a .sound) (a .single));
-        locks = rw vw (locks-put (suc N) st s (withRecs t l) (st .clock) within (λ _. gd .locks .held s op) (λ c nz cn lk oj am. (oj, am)) (gd .locks));
+        locks = rw vw (locks-put (suc N) st s (withRecs t l) (st .clock) within (λ _. all-map _ _ (t .writes) (held-refilled st t (t .writes) (t .recs ++ l)) (gd .locks .held s op)) (λ c nz cn lk oj am. (oj, am)) (gd .locks));
       }
 
   end-good : (g : Sight) → Noted z st (gd .ghost) s (slotV st s .recs) g → Good R N (readEnd m s g .after) h

@@ -10,7 +10,6 @@ use lib.Dec.{eqb, ltb}
 use lib.ListN.{getD, take}
 use borrow.Author.Tests.{ne-eqb, eqb-false, not-true, ltb-true, leb-false}
 use Rattle.rules.specs.declared.Answer.{Answer}
-use Rattle.rules.specs.declared.Version.{Version}
 use Rattle.rules.specs.Sizes.{Sizes}
 use Rattle.rules.specs.Lists.{least, fold, nonzero, keep}
 use Rattle.rules.specs.Versions.{at, versionAt}
@@ -33,7 +32,7 @@ use Rattle.rules.specs.Theory.Inv.{Ghost, Hist, Inv, vers, vis, verOf}
 use Rattle.rules.specs.Theory.Places.{chain-cell, head-among}
 use Rattle.rules.specs.Theory.Cells.{give-all-inv}
 use Rattle.rules.specs.Theory.VacuumView.{cnt-keep, relink-part, relink-inv}
-use Rattle.rules.specs.Theory.Locks.{Locks, locks-give-all, held-off, locks-same}
+use Rattle.rules.specs.Theory.Locks.{Locks, partOf, locks-give-all, held-off, locks-same, Part}
 use Rattle.rules.specs.Theory.Chains.{chain-ends}
 use Rattle.rules.specs.Theory.Guard.{guardCase, passed-split}
 use Rattle.rules.specs.Theory.Same.{same-relink, Same, same-then, same-give-all, same-shaped, slots-give-all}
@@ -123,10 +122,9 @@ module _ {z : Sizes} (R N : ℕ) (m : Mem z) (h : Hist) (gd : Good R N m h) (row
 
     swept-locks : Locks (suc N) (giveAllV (keep p l) relinked)
     swept-locks =
-        let fl = relink-part (λ (v : Version). v .locked) (λ v n. refl) alive (st .vers) in
-        let ow = relink-part (λ (v : Version). v .owner .0) (λ v n. refl) alive (st .vers) in
+        let same = relink-part partOf (λ v n. refl) alive (st .vers) in
         locks-give-all (suc N) (keep p l) relinked (held-off R (suc N) st (gd .ghost) h (gd .inv) (gd .locks) (keep p l) head-stays)
-        (locks-same (suc N) st (relinkV alive (st .vers)) (λ c. ap (λ (f : ℕ → ℕ). f c) fl) (λ c. ap (λ (f : ℕ → ℕ). f c) ow) (gd .locks))
+        (locks-same (suc N) st (relinkV alive (st .vers)) (λ c. ap (λ (f : ℕ → Part). f c) same) (gd .locks))
 
     swept-good : (room : ℕ) → Good R N (swept m hz room hd l .after) h
     unfolding swept
