@@ -28,8 +28,8 @@ use Rattle.rules.specs.Commit.{commitOut}
 use Rattle.rules.specs.Vacuum.{reclaimable}
 use Rattle.rules.specs.Lookup.{ownRows, lookupOut, lookupAllOut}
 use Rattle.rules.specs.Run.{Call, run, replyNumber, step}
-use Rattle.rules.specs.History.{Log, whoIn, rowsIn, answerOf, valueIn, Val, keyAnswer, GoesOn, logOf, viewIn, ownIn, cellsIn}
-use Rattle.rules.specs.Reachable.{Reachable, In, TooLong, ReadSetFull, times, everywhere, freeAt, chainAt, InOrder, behind, All, LockedFor, BaseOf, rowsRead, TrueStill, seesAt, Overtaken}
+use Rattle.rules.specs.History.{Log, whoIn, rowsIn, answerOf, valueIn, Val, keyAnswer, GoesOn, logOf, viewIn, ownIn, cellsIn, lastIn}
+use Rattle.rules.specs.Reachable.{Reachable, In, TooLong, ReadSetFull, times, everywhere, freeAt, chainAt, InOrder, behind, All, LockedFor, seesAt, BaseOf, rowsRead, TrueStill, Overtaken}
 use Rattle.rules.specs.Listing.{trouble, looksPast, needs, hit, NoTrouble, rowsOf, troubleValue}
 use Rattle.rules.specs.Validation.{commit-tested, accepted-commit-read-what-stands}
 use Rattle.rules.specs.Theory.Cases.{byBool, byEq}
@@ -39,6 +39,7 @@ use Rattle.rules.specs.Theory.SlotSteps.{ids-differ}
 use Rattle.rules.specs.Theory.Reading.{none-some}
 use Rattle.rules.specs.Theory.Guard.{passed-split}
 use Rattle.rules.specs.Theory.Good.{Owner, owner}
+use Rattle.rules.specs.Theory.CommitCall.{commit-facts}
 use Rattle.rules.specs.Theory.LookupCall.{from-below}
 use Rattle.rules.specs.Theory.VacuumCall.{row-chain}
 use Rattle.rules.specs.Theory.Steps.{Sound, run-sound, histOf}
@@ -51,6 +52,7 @@ use Rattle.rules.specs.Theory.CommitRefused.{commit-eight}
 use Rattle.rules.specs.Theory.LookupLaw.{rows-rising, lookup-passed, rows-read, found-all, late-passed, found-stop, lookup-all-passed, from-rising}
 use Rattle.rules.specs.Theory.Validated.{standing-are-heads}
 use Rattle.rules.specs.Theory.RecordsStay.{run-keeps}
+use Rattle.rules.specs.Theory.Replaced.{bases-seen, tested-saw}
 
 module _ {z : Sizes} (rm : Roomy z) (m : Mem z) (l : Log) (rc : Reachable m l) where
   abbrev so : Sound m l
@@ -204,6 +206,10 @@ module _ {z : Sizes} (rm : Roomy z) (m : Mem z) (l : Log) (rc : Reachable m l) w
   pub base-is-head-and-locked : (s : ℕ) → whoIn l s ≢ 0 → All (λ w. w .base ≢ 0 → LockedFor m (whoIn l s) w) (slotAt m s .writes)
   base-is-head-and-locked s op = bases-locked (rowsIn l) (cellsIn l) m (histOf l) so s (whoIn l s) (owns s op)
 
+  -- and its writer sees it
+  pub base-is-seen-by-its-writer : (s : ℕ) → whoIn l s ≢ 0 → All (λ w. w .base ≢ 0 → seesAt m s (w .base) ≡ true) (slotAt m s .writes)
+  base-is-seen-by-its-writer s op = bases-seen (rowsIn l) (cellsIn l) m (histOf l) so s (whoIn l s) (owns s op)
+
   -- nothing else is locked: a locked cell is a base of an open write
   pub nothing-else-is-locked : (c : ℕ) → c ≢ 0 → c ≤ cellsIn l → versionAt (m .cells) c .locked ≢ 0 → BaseOf m l c
   nothing-else-is-locked c nz le f = locked-based (rowsIn l) (cellsIn l) m (histOf l) so l (λ i. refl) c nz le f
@@ -249,6 +255,12 @@ module _ {z : Sizes} (rm : Roomy z) (m : Mem z) (l : Log) (rc : Reachable m l) w
   pub accepted-commit-read-the-last-commits : (s id : ℕ) → commitOut m s id .answer ≡ Done → slotAt m s .writes ≢ [] → All (λ q. q .cell ≡ headAt m (q .row)) (slotAt m s .recs)
   accepted-commit-read-the-last-commits s id e ne =
       standing-are-heads (rowsIn l) (cellsIn l) m (histOf l) so s id (owner m s id (passed-split (slotTests m s id) _ (commit-tested m s id e) .0)) (accepted-commit-read-what-stands m s id e ne)
+
+  -- nor is an update lost: of every row that an accepted commit replaces, the last commit is still the one made before it began
+  pub accepted-commit-replaces-what-it-saw : (s id : ℕ) → commitOut m s id .answer ≡ Done → All (λ w. lastIn l (w .row) ≡ viewIn l s (w .row)) (slotAt m s .writes)
+  accepted-commit-replaces-what-it-saw s id e =
+      let p = passed-split (slotTests m s id) _ (commit-tested m s id e) in
+      tested-saw (rowsIn l) (cellsIn l) m (histOf l) so s id (owner m s id (p .0)) (commit-facts m (so .shaped) (slotAt m s) (slotAt m s .writes) (p .1) .0)
 
   -- ---- 6: lookups follow history
 

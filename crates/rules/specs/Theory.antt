@@ -43,3 +43,4 @@ pub mod CommitRefused
 pub mod LookupLaw
 pub mod Validated
 pub mod RecordsStay
+pub mod Replaced
