@@ -2,16 +2,20 @@
 -- order, 14 last within a row".
 use mathlib.Core.Bool.{Bool, true, false, not, _||_, _&&_, cond}
 use mathlib.Core.List.{List, [], _∷_, _++_}
+use mathlib.Core.Logic.{_≢_}
 use mathlib.Core.Option.{Option, none, some}
 use mathlib.Core.Path.{_≡_}
 use Prim.Native.Nat.{ℕ, _+_}
 use lib.Dec.{ltb, leb, eqb}
 use lib.ListN.{length}
+use Rattle.rules.specs.declared.Answer.{Answer}
+use Rattle.rules.specs.declared.Answer.the-variants.{Listed}
 use Rattle.rules.specs.Sizes.{Sizes}
 use Rattle.rules.specs.Numbers.{chainTooLong, readSetFull, resultFull}
 use Rattle.rules.specs.Lists.{keep, has, from, first}
 use Rattle.rules.specs.Slots.{Rec}
 use Rattle.rules.specs.Memory.{Mem, slotAt}
+use Rattle.rules.specs.Outcome.{Outcome, refuse}
 use Rattle.rules.specs.Read.{recorded}
 use Rattle.rules.specs.Lookup.{isKey}
 use Rattle.rules.specs.History.{Log, ownIn, rowsIn, answerOf, valueIn}
@@ -59,3 +63,17 @@ module _ {z : Sizes} (m : Mem z) (l : Log) (s : ℕ) where
     abbrev pub NoTrouble : List ℕ → List ℕ → Type 0
     NoTrouble before [] = Unit {0}
     NoTrouble before (r ∷ rows) = (trouble before r ≡ 0) × NoTrouble (before ++ (r ∷ [])) rows
+
+    -- the first trouble among rows that come after the rows before: the rows without trouble, the row, the rows after it
+    pub record FirstTrouble (before rows : List ℕ) : Type 0 where
+      pub fine : List ℕ
+      pub row : ℕ
+      pub rest : List ℕ
+      pub split : rows ≡ fine ++ (row ∷ rest)
+      pub none-yet : NoTrouble before fine
+      pub here : trouble (before ++ fine) row ≢ 0
+
+    -- what a lookup of rows comes to by history: the rows with the key, or a refusal with the first trouble
+    pub data Comes (rows : List ℕ) : Outcome z Answer ℕ → Type 0 where
+      its-list : (o : Outcome z Answer ℕ) → NoTrouble [] rows → o .answer ≡ Listed (length (keep (hit key) rows)) → o .front ≡ keep (hit key) rows → Comes rows o
+      its-trouble : (f : FirstTrouble [] rows) → Comes rows (refuse m (trouble (f .fine) (f .row)) (troubleValue (trouble (f .fine) (f .row)) (f .row)))

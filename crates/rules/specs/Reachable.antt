@@ -20,7 +20,7 @@ use Rattle.rules.specs.Create.{createOut}
 use Rattle.rules.specs.Read.{recorded}
 use Rattle.rules.specs.Abort.{news}
 use Rattle.rules.specs.Run.{Call, run}
-use Rattle.rules.specs.History.{Log, logOf, made, ownIn, whoIn}
+use Rattle.rules.specs.History.{Log, logOf, made, ownIn, whoIn, GoesOn}
 
 -- m and its log l: calls with any arguments, refused ones and further creations among them, after an accepted creation
 pub record Reachable {z : Sizes} (m : Mem z) (l : Log) : Type 0 where
@@ -136,3 +136,8 @@ module _ {z : Sizes} (m : Mem z) where
     pub row-is : entry .row ≡ row
     pub base : entry .base ≡ 0
     pub head : headAt m row ≢ 0
+
+-- after further calls that go on with the history, the transaction that slot s has now is open in it still
+pub record StillOpen {z : Sizes} (m : Mem z) (l : Log) (s : ℕ) (cs : List Call) : Type 0 where
+  pub going : GoesOn cs (run cs m .0)
+  pub still : whoIn (logOf cs (run cs m .0) l) s ≡ whoIn l s

@@ -44,3 +44,4 @@ pub mod LookupLaw
 pub mod Validated
 pub mod RecordsStay
 pub mod Replaced
+pub mod Later

@@ -1,7 +1,7 @@
 -- A lookup against the history: row by row what is listed is what history says, and it stops at the first trouble.
 use mathlib.Core.Bool.{Bool, true, false, _||_, _&&_, not}
 use mathlib.Core.List.{List, _++_, _∷_, [], append-assoc, append-nil}
-use mathlib.Core.Logic.{_≢_}
+use mathlib.Core.Logic.{_⊎_, _≢_, inl, ⊎-elim, inr}
 use mathlib.Core.Option.{some, none, Option}
 use mathlib.Core.Path.{_≡_, ap, refl, subst, sym, _∙_}
 use Prim.Native.Nat.{ℕ, _+_, _≤_, suc, zero, _<_}
@@ -10,20 +10,21 @@ use lib.Dec.{eqb, leb}
 use lib.ListN.{length, getD, take, length-append}
 use lib.Seq.{append-snoc}
 use borrow.Author.Tests.{ne-eqb, le-ltb, lt-ltb, le-leb, lt-leb, eq-eqb}
+use Rattle.rules.specs.declared.Answer.{Answer}
 use Rattle.rules.specs.declared.Answer.the-variants.{Listed}
 use Rattle.rules.specs.declared.ReadAnswer.the-variants.{None}
 use Rattle.rules.specs.Sizes.{Sizes}
-use Rattle.rules.specs.Numbers.{resultFull, chainTooLong, readSetFull}
+use Rattle.rules.specs.Numbers.{resultFull, chainTooLong, readSetFull, numberOf}
 use Rattle.rules.specs.Lists.{keep, fold, from, first, has}
 use Rattle.rules.specs.Versions.{at, versionAt}
 use Rattle.rules.specs.Slots.{Rec, Slot, addRecs, Write}
 use Rattle.rules.specs.Memory.{Mem, slotAt, headAt, withSlot, wordsAt, sizeR}
-use Rattle.rules.specs.Outcome.{Test, refuse, out, each, slotTests}
+use Rattle.rules.specs.Outcome.{Test, refuse, out, each, slotTests, Outcome}
 use Rattle.rules.specs.Read.{recorded, sees, answerAt, blocked, Sight, readRow}
 use Rattle.rules.specs.Lookup.{Found, got, stopped, isKey, listRow, findRow, find, lookupEnd, lookupOut, ownRowTests, ownRows, rowsToRead, candidateTests, lookupAllOut}
 use Rattle.rules.specs.History.{Log, whoIn, rowsIn, cellsIn, Val, ownIn, answerOf, viewIn}
 use Rattle.rules.specs.Reachable.{All, seesAt, walkedAt, chainAt}
-use Rattle.rules.specs.Listing.{hit, needs, trouble, troubleValue, looksPast, isNone, NoTrouble, rowsOf}
+use Rattle.rules.specs.Listing.{hit, needs, trouble, troubleValue, looksPast, isNone, NoTrouble, rowsOf, FirstTrouble, Comes, its-list, its-trouble}
 use Rattle.rules.specs.Theory.Cases.{byBool, and-false, or-false, byEq}
 use Rattle.rules.specs.Theory.View.{View, viewOf, get-slots}
 use Rattle.rules.specs.Theory.Effects.{slotV}
@@ -56,6 +57,10 @@ recorded-append : (c : ℕ) (a b : List Rec) → recorded c (a ++ b) ≡ (record
 unfolding recorded
 recorded-append c [] b = refl
 recorded-append c (q ∷ a) b = byBool (eqb c (q .cell)) (λ e. rw e refl) (λ e. rw e (recorded-append c a b))
+
+-- no refusal, 10, 13 or 14
+abbrev pub OneOf : ℕ → Type 0
+OneOf k = (k ≡ 0) ⊎ ((k ≡ 10) ⊎ ((k ≡ 13) ⊎ (k ≡ 14)))
 
 -- a list of rows that rises from b on
 abbrev pub Rising : ℕ → List ℕ → Type 0
@@ -355,3 +360,42 @@ module _ {z : Sizes} (m : Mem z) (l : Log) (gd : Sound m l) (s : ℕ) (op : whoI
   pub rows-rising : (cands : List ℕ) → Rising 0 (rowsOf m l s cands) × All (λ r. r < rowsIn l) (rowsOf m l s cands)
   unfolding rowsOf
   rows-rising cands = (keep-rising _ 0 (from 0 (rowsIn l)) (from-rising 0 (rowsIn l)), keep-all _ _ (from 0 (rowsIn l)) (from-below (rowsIn l) 0 (rowsIn l) (omega arith)))
+
+  -- ---- rows have no trouble, or there is a first
+  trouble-or-not : (rows before : List ℕ) → NoTrouble m l s key room before rows ⊎ FirstTrouble m l s key room before rows
+  trouble-or-not [] before = inl tt
+  trouble-or-not (r ∷ rows) before = byEq (trouble m l s key room before r) 0
+      (λ e. ⊎-elim
+      (λ n. inl (e, n))
+      (λ f. inr (record { fine = r ∷ f .fine; row = f .row; rest = f .rest; split = ap (λ (x : List ℕ). r ∷ x) (f .split); none-yet = (e, f .none-yet); here = rw (← append-snoc before r (f .fine)) (f .here) }))
+      (trouble-or-not rows (before ++ (r ∷ []))))
+      (λ ne. inr (record { fine = []; row = r; rest = rows; split = refl; none-yet = tt; here = rw (append-nil before) ne }))
+
+  comes : (late : List Test) → Passed late → (rows : List ℕ) → Rising 0 rows → All (λ r. r < rowsIn l) rows → Comes m l s key room rows (lookupEnd m s late (find m (slotAt m s) key room rows))
+  comes late p rows ri a = ⊎-elim
+      (λ n. let x = found-all late p rows ri a n in its-list _ n (x .0) (x .1))
+      (λ f.
+      let e = f .split in
+      subst (λ (o : Outcome z Answer ℕ). Comes m l s key room rows o)
+      (sym (ap (λ (x : List ℕ). lookupEnd m s late (find m (slotAt m s) key room x)) e ∙ found-stop late (f .fine) (f .row) (f .rest) (rw e at ri) (rw e at a) (f .none-yet) (f .here)))
+      (its-trouble f))
+      (trouble-or-not rows [])
+
+  pub lookup-comes : (cands : List ℕ) → All (λ r. r < rowsIn l) cands → Comes m l s key room (rowsOf m l s cands) (lookupOut m s (whoIn l s) key cands room)
+  lookup-comes cands a =
+      let r = rows-rising cands in
+      rw (lookup-passed cands a, rows-read cands) (comes _ late-passed (rowsOf m l s cands) (r .0) (r .1))
+
+  pub lookup-all-comes : Comes m l s key room (from 0 (rowsIn l)) (lookupAllOut m s (whoIn l s) key room)
+  lookup-all-comes = rw (lookup-all-passed, gd .rows) (comes [] tt (from 0 (rowsIn l)) (from-rising 0 (rowsIn l)) (from-below (rowsIn l) 0 (rowsIn l) (omega arith)))
+
+  -- the numbers that a row can stop a lookup with
+  trouble-known : (before : List ℕ) (r : ℕ) → OneOf (trouble m l s key room before r)
+  unfolding trouble
+  trouble-known before r = byBool (looksPast m l s r) (λ e. rw e (inr (inl refl)))
+      (λ e. rw e (byBool (isNeed r && leb (z .reads) (length (slotAt m s .recs) + length (keep isNeed before))) (λ f. rw f (inr (inr (inl refl))))
+      (λ f. rw f (byBool (isHit r && leb room (length (keep isHit before))) (λ g. rw g (inr (inr (inr refl)))) (λ g. rw g (inl refl))))))
+
+  pub comes-known : (rows : List ℕ) (o : Outcome z Answer ℕ) → Comes m l s key room rows o → OneOf (numberOf (o .answer))
+  comes-known rows o (its-list _ n e f) = inl (ap numberOf e)
+  comes-known rows _ (its-trouble f) = trouble-known (f .fine) (f .row)

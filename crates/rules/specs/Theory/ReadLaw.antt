@@ -1,7 +1,7 @@
 -- A read on a store of which all holds, in the words of the memory and of the log.
 use mathlib.Core.Bool.{not, true≢false}
 use mathlib.Core.List.{_∷_, [], _++_}
-use mathlib.Core.Logic.{_≢_}
+use mathlib.Core.Logic.{_≢_, _⊎_, inl, inr}
 use mathlib.Core.Option.{some, Option, none}
 use mathlib.Core.Path.{_≡_, refl, sym, ap, _∙_, subst}
 use Prim.Native.Nat.{ℕ, _<_, _≤_}
@@ -13,7 +13,7 @@ use Rattle.rules.specs.declared.Answer.the-variants.{Done}
 use Rattle.rules.specs.declared.ReadAnswer.{ReadAnswer}
 use Rattle.rules.specs.declared.ReadAnswer.the-variants.{None}
 use Rattle.rules.specs.Sizes.{Sizes, Roomy}
-use Rattle.rules.specs.Numbers.{badSize, chainTooLong, readSetFull}
+use Rattle.rules.specs.Numbers.{badSize, chainTooLong, readSetFull, readNumber}
 use Rattle.rules.specs.Lists.{first}
 use Rattle.rules.specs.Versions.{at, versionAt}
 use Rattle.rules.specs.Slots.{Slot}
@@ -22,7 +22,7 @@ use Rattle.rules.specs.Chain.{Chain}
 use Rattle.rules.specs.Outcome.{Outcome, refuse, test, fits, slotTests, rowTest, refuseRead}
 use Rattle.rules.specs.Create.{createOut}
 use Rattle.rules.specs.Read.{recorded, Sight, readEnd, answerAt, readOut, readAt}
-use Rattle.rules.specs.History.{made, Log, whoIn, rowsIn, cellsIn, ownIn, answerOf, valueIn, viewIn}
+use Rattle.rules.specs.History.{made, Log, whoIn, rowsIn, cellsIn, ownIn, answerOf, valueIn, viewIn, keyAnswer, Val}
 use Rattle.rules.specs.Reachable.{Reachable, chainAt, seesAt, walkedAt, TooLong, ReadSetFull}
 use Rattle.rules.specs.Theory.SlotLaws.{recs-length}
 use Rattle.rules.specs.Theory.View.{viewOf, get-slots}
@@ -125,3 +125,34 @@ module _ {z : Sizes} (m : Mem z) (l : Log) (gd : Sound m l) (s row : ℕ) (op : 
       let a = right-at (rowsIn l) (cellsIn l) m (histOf l) gd s id row (slotV (viewOf m) s .recs) o inR in
       rw (guard-passed (refuseRead m) ts (readEnd m s (readAt m (slotAt m s) (slotAt m s .recs) row)) p)
       (subst (λ (t : Slot). ReadIs (readEnd m s (readAt m t (t .recs) row) .answer)) at-slot (sight-is _ a))
+
+  -- ---- what the cases say
+
+  pub tells : (a : ReadAnswer) → ReadIs a → (a ≡ answerOf (valueIn l s row)) ⊎ (((a ≡ ReadAnswer.Refused chainTooLong row) × TooLong m l s row) ⊎ ((a ≡ ReadAnswer.Refused readSetFull row) × ReadSetFull m l s row))
+  tells a (is-told _ e nl nf) = inl e
+  tells _ (is-long t) = inr (inl (refl, t))
+  tells _ (is-full f) = inr (inr (refl, f))
+
+  -- a refusal is no value
+  key-not : (k x : ℕ) (o : Option ℕ) → ReadAnswer.Refused k x ≡ keyAnswer o → ⊥
+  key-not k x none e = let y : _≡_ {A = ℕ} 0 1 = cc in omega arith
+  key-not k x (some q) e = let y : _≡_ {A = ℕ} 0 1 = cc in omega arith
+
+  refused-not : (k x : ℕ) (v : Option Val) → ReadAnswer.Refused k x ≡ answerOf v → ⊥
+  refused-not k x none e = let y : _≡_ {A = ℕ} 0 1 = cc in omega arith
+  refused-not k x (some v) e = key-not k x (v .value) e
+
+  pub ten : (a : ReadAnswer) → ReadIs a → (a ≡ ReadAnswer.Refused chainTooLong row → TooLong m l s row) × (TooLong m l s row → a ≡ ReadAnswer.Refused chainTooLong row)
+  ten a (is-told _ e nl nf) = ((λ q. absurd (refused-not chainTooLong row (valueIn l s row) (sym q ∙ e))), λ t. absurd (nl t))
+  ten _ (is-long t) = ((λ q. t), λ _. refl)
+  ten _ (is-full f) = ((λ q. let y : readSetFull ≡ chainTooLong = ap readNumber q in absurd (omega arith)), λ t. absurd (none-some _ (f .cell) (t .unseen) (f .finds)))
+
+  pub thirteen : (a : ReadAnswer) → ReadIs a → (a ≡ ReadAnswer.Refused readSetFull row → ReadSetFull m l s row) × (ReadSetFull m l s row → a ≡ ReadAnswer.Refused readSetFull row)
+  thirteen a (is-told _ e nl nf) = ((λ q. absurd (refused-not readSetFull row (valueIn l s row) (sym q ∙ e))), λ f. absurd (nf f))
+  thirteen _ (is-long t) = ((λ q. let y : chainTooLong ≡ readSetFull = ap readNumber q in absurd (omega arith)), λ f. absurd (none-some _ (f .cell) (t .unseen) (f .finds)))
+  thirteen _ (is-full f) = ((λ q. f), λ _. refl)
+
+  pub answered : (a : ReadAnswer) → ReadIs a → readNumber a ≡ 0 → a ≡ answerOf (valueIn l s row)
+  answered a (is-told _ e nl nf) q = e
+  answered _ (is-long t) q = absurd (omega arith)
+  answered _ (is-full f) q = absurd (omega arith)
