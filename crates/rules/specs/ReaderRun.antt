@@ -1,8 +1,10 @@
 -- The theorems of demand 3 are not empty: a run with a reader open across commits, a vacuum and the reuse of a cell, computed. What the
 -- reader is answered is what the log says.
 use mathlib.Core.List.{List, _∷_, []}
+use mathlib.Core.Logic.{_≢_}
 use mathlib.Core.Option.{some, none}
 use mathlib.Core.Path.{_≡_, refl, ap}
+use Prim.Native.Nat.{ℕ, _≤_}
 use lib.ListN.{replicate}
 use Rattle.rules.specs.declared.Answer.the-variants.{Begun, Wrote, Done, Vacuumed, Listed}
 use Rattle.rules.specs.declared.ReadAnswer.the-variants.{Key, None}
@@ -24,8 +26,9 @@ use Rattle.rules.specs.Abort.{unlockBase, giveBack, abortOut}
 use Rattle.rules.specs.Vacuum.{swept, reclaimable, relink, reports, vacuumNow, vacuumOut}
 use Rattle.rules.specs.Lookup.{isKey, listRow, findRow, lookupEnd, rowsToRead, lookupOut, lookupAllOut}
 use Rattle.rules.specs.Run.{Call, begin, write, commit, vacuum, read, lookupAll, Reply, gave, looked, run, step}
-use Rattle.rules.specs.History.{Log, logOf, made, valueIn, said, logged, commits, writesIn, viewIn, lastIn, ownIn, whoIn, rowsIn}
-use Rattle.rules.specs.Reachable.{Reachable}
+use Rattle.rules.specs.History.{Log, logOf, made, valueIn, said, logged, commits, writesIn, viewIn, lastIn, ownIn, whoIn, rowsIn, cellsIn}
+use Rattle.rules.specs.Reachable.{Reachable, times, everywhere}
+use Rattle.rules.specs.Demand3.{each-cell-in-one-place, base-is-roomy}
 use Rattle.rules.specs.Run as R
 
 abbrev lent : Mem base
@@ -113,3 +116,8 @@ run-is-reachable = record {
 pub both-are-open : (whoIn log 0 ≡ 3) × (whoIn log 1 ≡ 6) × (rowsIn log ≡ 2)
 unfolding logOf logged commits writesIn whoIn rowsIn
 both-are-open = (refl, refl, refl)
+
+-- so, for one: each of its three cells is in one place
+pub each-of-the-three-cells-in-one-place : (c : ℕ) → c ≢ 0 → c ≤ 3 → times c (everywhere (run calls (createOut lent 3 2 .after) .1)) ≡ 1
+unfolding logOf logged commits writesIn cellsIn
+each-of-the-three-cells-in-one-place c nz le = each-cell-in-one-place base-is-roomy (run calls (createOut lent 3 2 .after) .1) log run-is-reachable c nz le
