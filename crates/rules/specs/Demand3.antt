@@ -8,25 +8,26 @@ use mathlib.Core.Option.{Option}
 use mathlib.Core.Path.{refl, _≡_, _∙_, ap, sym}
 use Prim.Native.Nat.{ℕ, _<_, _≤_, suc}
 use native.Mathlib.Omega.{arith}
+use lib.ListN.{length}
 use Rattle.rules.specs.declared.Answer.{Answer}
 use Rattle.rules.specs.declared.Answer.the-variants.{Done}
 use Rattle.rules.specs.declared.ReadAnswer.{ReadAnswer}
 use Rattle.rules.specs.Sizes.{base, Roomy, Sizes}
 use Rattle.rules.specs.Numbers.{readNumber, numberOf}
-use Rattle.rules.specs.Lists.{orElse, from}
+use Rattle.rules.specs.Lists.{orElse, keep, from}
 use Rattle.rules.specs.Versions.{versionAt}
 use Rattle.rules.specs.Slots.{Slot, Rec}
 use Rattle.rules.specs.Memory.{Mem, sizeR, sizeN, slotAt, clock, headAt}
 use Rattle.rules.specs.Chain.{ends, Chain}
 use Rattle.rules.specs.Snapshot.{horizon}
-use Rattle.rules.specs.Outcome.{slotTests}
+use Rattle.rules.specs.Outcome.{refuse, slotTests}
 use Rattle.rules.specs.Read.{readOut}
 use Rattle.rules.specs.Commit.{commitOut}
-use Rattle.rules.specs.Vacuum.{reclaimable}
+use Rattle.rules.specs.Vacuum.{reclaimable, vacuumOut}
 use Rattle.rules.specs.Lookup.{ownRows, lookupOut, lookupAllOut}
 use Rattle.rules.specs.Run.{Call, run, replyNumber, step}
 use Rattle.rules.specs.History.{Log, whoIn, rowsIn, cellsIn, answerOf, valueIn, Val, ownIn, logOf, viewIn, lastIn}
-use Rattle.rules.specs.Reachable.{Reachable, In, TooLong, ReadSetFull, StillOpen, times, everywhere, freeAt, chainAt, InOrder, behind, All, LockedFor, seesAt, BaseOf, rowsRead, TrueStill, Overtaken}
+use Rattle.rules.specs.Reachable.{Reachable, In, TooLong, ReadSetFull, StillOpen, times, everywhere, freeAt, chainAt, InOrder, behind, All, LockedFor, seesAt, BaseOf, rowsRead, TrueStill, Swept, Overtaken}
 use Rattle.rules.specs.Listing.{Comes, rowsOf}
 use Rattle.rules.specs.Validation.{commit-tested, accepted-commit-read-what-stands}
 use Rattle.rules.specs.Theory.View.{get-slots, viewOf}
@@ -46,6 +47,7 @@ use Rattle.rules.specs.Theory.LookupLaw.{lookup-comes, lookup-all-comes,
 use Rattle.rules.specs.Theory.Validated.{standing-are-heads}
 use Rattle.rules.specs.Theory.Replaced.{bases-seen, tested-saw}
 use Rattle.rules.specs.Theory.Later.{later-is, later-records}
+use Rattle.rules.specs.Theory.VacuumLaw.{vacuum-comes, vacuum-full}
 
 -- 16 slots of 504 words, and so on, are such sizes
 pub base-is-roomy : Roomy base
@@ -185,6 +187,18 @@ module _ {z : Sizes} (rm : Roomy z) (m : Mem z) (l : Log) (rc : Reachable m l) w
   -- what vacuum may reclaim, with any request, no open reader sees: for all open snapshots at once
   pub vacuum-removes-nothing-that-a-reader-sees : (request c : ℕ) → reclaimable (horizon m request) (versionAt (m .cells) c) ≡ true → (s : ℕ) → whoIn l s ≢ 0 → seesAt m s c ≡ false
   vacuum-removes-nothing-that-a-reader-sees request c e s op = reclaimed-unseen (rowsIn l) (cellsIn l) m (histOf l) so s (whoIn l s) (owns s op) request c e
+
+  -- and it removes exactly that, behind the head: counted, reported in chain order, with the head's value; the rest of the row's chain stays
+  -- in order, every other chain as it was. Where the buffer is too short it is refused with 14
+  pub vacuum-removes-exactly-what-is-reclaimable : (row request room : ℕ) → row < rowsIn l
+      → length (keep (λ c. reclaimable (horizon m request) (versionAt (m .cells) c)) (behind (chainAt m row .cells))) ≤ room
+      → Swept m row request (chainAt m row .cells) (vacuumOut m row request room)
+  vacuum-removes-exactly-what-is-reclaimable row request room inR fit = vacuum-comes (rowsIn l) (cellsIn l) m (histOf l) so row inR request room fit
+
+  pub vacuum-refused-14-where-the-buffer-is-too-short : (row request room : ℕ) → row < rowsIn l
+      → room < length (keep (λ c. reclaimable (horizon m request) (versionAt (m .cells) c)) (behind (chainAt m row .cells)))
+      → vacuumOut m row request room ≡ refuse m 14 0
+  vacuum-refused-14-where-the-buffer-is-too-short row request room inR lt = vacuum-full (rowsIn l) (cellsIn l) m (histOf l) so row inR request room lt
 
   -- a commit is refused with 8 only for a row that had no version when it was written, and has one now
   pub commit-refused-8-only-for-base-0 : (s id row : ℕ) → commitOut m s id .answer ≡ Answer.Refused 8 row → Overtaken m s row

@@ -1,6 +1,6 @@
 -- Reachable stores: what an accepted creation and any calls after it lead to, whatever memory was lent. And the parts of a memory that
 -- the theorems on reachable stores speak of.
-use mathlib.Core.Bool.{Bool, false, cond, true}
+use mathlib.Core.Bool.{Bool, false, cond, true, not}
 use mathlib.Core.List.{List, _∷_, [], _++_}
 use mathlib.Core.Logic.{_⊎_, _≢_}
 use mathlib.Core.Option.{none, some}
@@ -8,17 +8,22 @@ use mathlib.Core.Path.{_≡_}
 use Prim.Native.Nat.{ℕ, _<_, suc, _≤_}
 use lib.Dec.{eqb}
 use lib.ListN.{take, length}
-use Rattle.rules.specs.declared.Answer.the-variants.{Done}
+use Rattle.rules.specs.declared.Answer.{Answer}
+use Rattle.rules.specs.declared.Answer.the-variants.{Done, Vacuumed}
+use Rattle.rules.specs.declared.ReadAnswer.the-variants.{None}
 use Rattle.rules.specs.Sizes.{Sizes}
-use Rattle.rules.specs.Lists.{first, from, has}
-use Rattle.rules.specs.Versions.{versionAt, withNext, emptyVersion, linkAt}
+use Rattle.rules.specs.Lists.{first, from, has, keep}
+use Rattle.rules.specs.Versions.{versionAt, withNext, emptyVersion, linkAt, valueOf}
 use Rattle.rules.specs.Slots.{Rec, Write, Slot}
 use Rattle.rules.specs.Memory.{Mem, sizeN, headAt, free, slotAt, sizeR}
 use Rattle.rules.specs.Visible.{visible}
 use Rattle.rules.specs.Chain.{chain, Chain}
+use Rattle.rules.specs.Snapshot.{horizon}
+use Rattle.rules.specs.Outcome.{Outcome, out}
 use Rattle.rules.specs.Create.{createOut}
 use Rattle.rules.specs.Read.{recorded}
 use Rattle.rules.specs.Abort.{news}
+use Rattle.rules.specs.Vacuum.{reclaimable, reports}
 use Rattle.rules.specs.Run.{Call, run}
 use Rattle.rules.specs.History.{Log, logOf, made, ownIn, whoIn, GoesOn}
 
@@ -141,3 +146,14 @@ module _ {z : Sizes} (m : Mem z) where
 pub record StillOpen {z : Sizes} (m : Mem z) (l : Log) (s : ℕ) (cs : List Call) : Type 0 where
   pub going : GoesOn cs (run cs m .0)
   pub still : whoIn (logOf cs (run cs m .0) l) s ≡ whoIn l s
+
+-- What a vacuum of a row comes to, where the chain is l: nothing, for a row without versions; or the versions behind the head that are
+-- reclaimable are out of the chain, counted, and reported in chain order, with the head's value; every other chain is as it was.
+pub data Swept {z : Sizes} (m : Mem z) (row request : ℕ) : List ℕ → Outcome z Answer (List ℕ) → Type 0 where
+  bare : Swept m row request [] (out (Vacuumed 0 None) [] m)
+  sweeps : (head : ℕ) (l : List ℕ) (o : Outcome z Answer (List ℕ))
+      → o .answer ≡ Vacuumed (length (keep (λ c. reclaimable (horizon m request) (versionAt (m .cells) c)) l)) (valueOf (versionAt (m .cells) head))
+      → o .front ≡ reports (m .cells) (keep (λ c. reclaimable (horizon m request) (versionAt (m .cells) c)) l)
+      → chainAt (o .after) row .cells ≡ head ∷ keep (λ c. not (reclaimable (horizon m request) (versionAt (m .cells) c))) l
+      → ((r : ℕ) → r < sizeR m → r ≢ row → chainAt (o .after) r .cells ≡ chainAt m r .cells)
+      → Swept m row request (head ∷ l) o

@@ -45,3 +45,4 @@ pub mod Validated
 pub mod RecordsStay
 pub mod Replaced
 pub mod Later
+pub mod VacuumLaw

@@ -1,7 +1,7 @@
 -- The chain as the rules walk it, against the list that the pointers spell: a walk of k versions is the first k of the list.
 use mathlib.Core.List.{List, [], _∷_}
 use mathlib.Core.Logic.{_≢_}
-use mathlib.Core.Path.{refl, _≡_, ap, sym, _∙_}
+use mathlib.Core.Path.{refl, _≡_, ap, sym, _∙_, subst}
 use Prim.Native.Nat.{ℕ, _<_, zero, suc, _≤_, _+_}
 use native.Mathlib.Nat.{le-of-suc-le-suc}
 use native.Mathlib.Omega.{arith}
@@ -47,6 +47,16 @@ chain-spelled n (suc k) f h [] b s = rw (eq-eqb h 0 s)
 chain-spelled n (suc k) f h (c ∷ l) b s =
     rw (s .0, ne-eqb c 0 (s .1), le-ltb n c (le-of-suc-le-suc (b .0)))
     (ap (λ (x : Chain). chained (c ∷ x .cells) (x .after)) (chain-spelled n k f (f c .next .0) l (b .1) (s .2)))
+
+-- the pointers spell one list
+pub spelled-same : (f : ℕ → ℕ) (h : ℕ) (a b : List ℕ) → Spelled f h a → Spelled f h b → a ≡ b
+spelled-same f h [] [] s t = refl
+spelled-same f h [] (d ∷ b) s t = absurd (t .1 (sym (t .0) ∙ s))
+spelled-same f h (c ∷ a) [] s t = absurd (s .1 (sym (s .0) ∙ t))
+spelled-same f h (c ∷ a) (d ∷ b) s t =
+    let e : c ≡ d = sym (s .0) ∙ t .0 in
+    let r = spelled-same f (f c) a b (s .2) (subst (λ (x : ℕ). Spelled f (f x) b) (sym e) (t .2)) in
+    rw (e, r)
 
 pub take-whole : (k : ℕ) (l : List ℕ) → length l ≤ k → take k l ≡ l
 take-whole zero [] h = refl
