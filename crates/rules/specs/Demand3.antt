@@ -2,10 +2,10 @@
 -- after it (Reachable.antt), with the log of those calls and their replies (History.antt). The functions are those that the public
 -- contracts cite, at any sizes z whose slots are wide enough. What a longer walk limit changes stands in WalkLimit.antt.
 use mathlib.Core.Bool.{true, false}
-use mathlib.Core.List.{List, []}
+use mathlib.Core.List.{_∷_, [], List}
 use mathlib.Core.Logic.{_≢_, _⊎_}
 use mathlib.Core.Option.{Option}
-use mathlib.Core.Path.{refl, _≡_, _∙_, ap, sym}
+use mathlib.Core.Path.{_≡_, refl, _∙_, ap, sym}
 use Prim.Native.Nat.{ℕ, _<_, _≤_, suc}
 use native.Mathlib.Omega.{arith}
 use lib.ListN.{length}
@@ -21,13 +21,14 @@ use Rattle.rules.specs.Memory.{Mem, sizeR, sizeN, slotAt, clock, headAt}
 use Rattle.rules.specs.Chain.{ends, Chain}
 use Rattle.rules.specs.Snapshot.{horizon}
 use Rattle.rules.specs.Outcome.{refuse, slotTests}
+use Rattle.rules.specs.Create.{createOut}
 use Rattle.rules.specs.Read.{readOut}
 use Rattle.rules.specs.Commit.{commitOut}
 use Rattle.rules.specs.Vacuum.{reclaimable, vacuumOut}
 use Rattle.rules.specs.Lookup.{ownRows, lookupOut, lookupAllOut}
-use Rattle.rules.specs.Run.{Call, run, replyNumber, step}
-use Rattle.rules.specs.History.{Log, whoIn, rowsIn, cellsIn, answerOf, valueIn, Val, ownIn, logOf, viewIn, lastIn}
-use Rattle.rules.specs.Reachable.{Reachable, In, TooLong, ReadSetFull, StillOpen, times, everywhere, freeAt, chainAt, InOrder, behind, All, LockedFor, seesAt, BaseOf, rowsRead, TrueStill, Swept, Overtaken}
+use Rattle.rules.specs.Run.{run, Call, replyNumber, step}
+use Rattle.rules.specs.History.{made, logOf, Log, whoIn, rowsIn, cellsIn, answerOf, valueIn, Val, ownIn, viewIn, lastIn}
+use Rattle.rules.specs.Reachable.{Reachable, In, TooLong, ReadSetFull, StillOpen, times, everywhere, chainAt, NowhereElse, freeAt, InOrder, behind, All, LockedFor, seesAt, BaseOf, rowsRead, TrueStill, Swept, Overtaken}
 use Rattle.rules.specs.Listing.{Comes, rowsOf}
 use Rattle.rules.specs.Validation.{commit-tested, accepted-commit-read-what-stands}
 use Rattle.rules.specs.Theory.View.{get-slots, viewOf}
@@ -40,7 +41,7 @@ use Rattle.rules.specs.Theory.VacuumCall.{row-chain}
 use Rattle.rules.specs.Theory.Steps.{Sound, histOf}
 use Rattle.rules.specs.Theory.Never.{open-slot, never-damaged}
 use Rattle.rules.specs.Theory.ReadLaw.{reachable-sound, ReadIs, read-is, tells, ten, thirteen}
-use Rattle.rules.specs.Theory.OnePlace.{once-everywhere, inb-one, inb-none, free-chain}
+use Rattle.rules.specs.Theory.OnePlace.{once-everywhere, inb-one, inb-none, nowhere-else, free-chain}
 use Rattle.rules.specs.Theory.Facts.{id-past, snapshot-order, head-live, later-superseded, bases-locked, locked-based, one-entry, one-record, records-true, reclaimed-unseen}
 use Rattle.rules.specs.Theory.CommitRefused.{commit-eight}
 use Rattle.rules.specs.Theory.LookupLaw.{lookup-comes, lookup-all-comes, OneOf, comes-known}
@@ -48,10 +49,19 @@ use Rattle.rules.specs.Theory.Validated.{standing-are-heads}
 use Rattle.rules.specs.Theory.Replaced.{bases-seen, tested-saw}
 use Rattle.rules.specs.Theory.Later.{later-is, later-records}
 use Rattle.rules.specs.Theory.VacuumLaw.{vacuum-comes, vacuum-full}
+use Rattle.rules.specs.Theory.Extending.{reachable-after}
 
 -- 16 slots of 504 words, and so on, are such sizes
 pub base-is-roomy : Roomy base
 base-is-roomy = record { room = omega arith }
+
+-- an accepted creation is reachable, and what any calls lead to from a reachable store
+pub creation-is-reachable : {z : Sizes} (m : Mem z) (n r : ℕ) → createOut m n r .answer ≡ Done → Reachable (createOut m n r .after) (made n r ∷ [])
+unfolding run logOf
+creation-is-reachable m n r e = record { lent = m; n = n; r = r; calls = []; accepted = e; memory = refl; log = refl }
+
+pub calls-lead-to-reachable-stores : {z : Sizes} (m : Mem z) (l : Log) → Reachable m l → (cs : List Call) → Reachable (run cs m .1) (logOf cs (run cs m .0) l)
+calls-lead-to-reachable-stores m l rc cs = reachable-after m l rc cs
 
 module _ {z : Sizes} (rm : Roomy z) (m : Mem z) (l : Log) (rc : Reachable m l) where
   abbrev so : Sound m l
@@ -113,6 +123,10 @@ module _ {z : Sizes} (rm : Roomy z) (m : Mem z) (l : Log) (rc : Reachable m l) w
     once-everywhere (rowsIn l) (cellsIn l) m (histOf l) so 0 ∙ inb-zero (suc (cellsIn l)),
     λ c lt. once-everywhere (rowsIn l) (cellsIn l) m (histOf l) so c ∙ inb-none (cellsIn l) c lt,
   )
+
+  -- So a cell of a row's chain stands there once, in no other row's chain (gap 5), not in the free list and in no write set.
+  pub chained-cell-is-nowhere-else : (row c : ℕ) → row < rowsIn l → times c (chainAt m row .cells) ≢ 0 → NowhereElse m row c
+  chained-cell-is-nowhere-else row c inR nz = nowhere-else (rowsIn l) (cellsIn l) m (histOf l) so row c inR nz
 
   -- the free list and every chain end
   pub free-list-ends : freeAt m .after ≡ ends

@@ -2,7 +2,7 @@
 -- the theorems on reachable stores speak of.
 use mathlib.Core.Bool.{Bool, false, cond, true, not}
 use mathlib.Core.List.{List, _∷_, [], _++_}
-use mathlib.Core.Logic.{_⊎_, _≢_}
+use mathlib.Core.Logic.{_≢_, _⊎_}
 use mathlib.Core.Option.{none, some}
 use mathlib.Core.Path.{_≡_}
 use Prim.Native.Nat.{ℕ, _<_, suc, _≤_}
@@ -81,6 +81,13 @@ everywhere {z} m = freeAt m .cells ++ (joined (λ r. chainAt m r .cells) (from 0
 unfoldable pub times : ℕ → List ℕ → ℕ
 times x [] = 0
 times x (y ∷ l) = cond (eqb x y) (suc (times x l)) (times x l)
+
+-- cell c stands in row's chain once, and in no other place
+pub record NowhereElse {z : Sizes} (m : Mem z) (row c : ℕ) : Type 0 where
+  pub once : times c (chainAt m row .cells) ≡ 1
+  pub others : (r : ℕ) → r < sizeR m → r ≢ row → times c (chainAt m r .cells) ≡ 0
+  pub unfree : times c (freeAt m .cells) ≡ 0
+  pub unwritten : (s : ℕ) → s < z .slots → times c (news (slotAt m s .writes)) ≡ 0
 
 -- a chain behind its head
 abbrev pub behind : List ℕ → List ℕ

@@ -46,3 +46,4 @@ pub mod RecordsStay
 pub mod Replaced
 pub mod Later
 pub mod VacuumLaw
+pub mod Extending

@@ -1,7 +1,7 @@
 -- Each cell in one place: the counting equation of the invariant, said of the lists that the memory spells.
 use mathlib.Core.List.{List, [], _∷_}
 use mathlib.Core.Logic.{_≢_}
-use mathlib.Core.Path.{_≡_, refl, ap, _∙_, sym}
+use mathlib.Core.Path.{_≡_, refl, ap, _∙_, sym, subst}
 use Prim.Native.Nat.{ℕ, _<_, _+_, suc, _≤_}
 use native.Mathlib.Omega.{arith}
 use lib.Dec.{eqb}
@@ -9,17 +9,17 @@ use lib.ListN.{length, getD}
 use borrow.Author.Tests.{ne-eqb, lt-ltb, le-ltb}
 use Rattle.rules.specs.Sizes.{Sizes}
 use Rattle.rules.specs.Lists.{from}
-use Rattle.rules.specs.Versions.{withNext, emptyVersion, linkAt}
+use Rattle.rules.specs.Versions.{withNext, emptyVersion, linkAt, at}
 use Rattle.rules.specs.Slots.{Slot}
 use Rattle.rules.specs.Memory.{Mem, free, sizeR, slotAt}
 use Rattle.rules.specs.Chain.{chained, ends, Chain}
 use Rattle.rules.specs.Abort.{news}
-use Rattle.rules.specs.Reachable.{times, joined, freeAt, chainAt, everywhere}
+use Rattle.rules.specs.Reachable.{times, joined, freeAt, chainAt, everywhere, NowhereElse}
 use Rattle.rules.specs.Theory.Cases.{byBool}
 use Rattle.rules.specs.Theory.View.{viewOf, emptySlot, get-slots}
 use Rattle.rules.specs.Theory.Counting.{cnt, bit, sum, cnt-append}
 use Rattle.rules.specs.Theory.Inv.{Hist, inSlot, inb}
-use Rattle.rules.specs.Theory.Places.{free-alone}
+use Rattle.rules.specs.Theory.Places.{free-alone, chain-cell}
 use Rattle.rules.specs.Theory.Chains.{AllBelow, all-below, list-short, chain-spelled, take-whole, rest-ends}
 use Rattle.rules.specs.Theory.Good.{Good}
 use Rattle.rules.specs.Theory.BeginCall.{slots-length}
@@ -74,6 +74,21 @@ module _ {z : Sizes} (R N : ℕ) (m : Mem z) (h : Hist) (gd : Good R N m h) wher
       ∙ cnt-append x (freeAt m .cells) _
       ∙ ap (λ (k : ℕ). cnt x (freeAt m .cells) + k) (cnt-append x (joined (λ r. chainAt m r .cells) (from 0 (sizeR m))) _)
       ∙ rw (free-chain, rows-sum x, slots-sum x) (omega (arith, gd .inv .once x))
+
+module _ {z : Sizes} (R N : ℕ) (m : Mem z) (h : Hist) (gd : Good R N m h) where
+  chain-of : (r : ℕ) → r < R → getD (gd .ghost .rows) r [] ≡ chainAt m r .cells
+  chain-of r lt = sym (ap (λ (c : Chain). c .cells) (row-chain R N m h gd r lt))
+
+  pub nowhere-else : (row c : ℕ) → row < R → times c (chainAt m row .cells) ≢ 0 → NowhereElse m row c
+  nowhere-else row c inR nz =
+      let in-row : cnt c (getD (gd .ghost .rows) row []) ≢ 0 = λ y. nz (times-is c (chainAt m row .cells) ∙ subst (λ (x : List ℕ). cnt c x ≡ 0) (chain-of row inR) y) in
+      let k = chain-cell R (suc N) (viewOf m) (gd .ghost) h [] c row (gd .inv) in-row in
+      record {
+        once = times-is c (chainAt m row .cells) ∙ subst (λ (x : List ℕ). cnt c x ≡ 1) (chain-of row inR) (k .single);
+        others = λ r lt ne. times-is c (chainAt m r .cells) ∙ subst (λ (x : List ℕ). cnt c x ≡ 0) (chain-of r (rw (gd .rows) at lt)) (k .unrow r (λ e. ne (sym e)));
+        unfree = times-is c (freeAt m .cells) ∙ subst (λ (x : Chain). cnt c (x .cells) ≡ 0) (sym (free-chain R N m h gd)) (k .unfree);
+        unwritten = λ s lt. times-is c (news (slotAt m s .writes)) ∙ subst (λ (t : Slot). cnt c (news (t .writes)) ≡ 0) (get-slots z (m .slots) s lt) (k .unslot s);
+      }
 
 pub inb-one : (N x : ℕ) → x ≢ 0 → x ≤ N → inb (suc N) x ≡ 1
 unfolding inb bit

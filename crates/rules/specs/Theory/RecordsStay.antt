@@ -19,7 +19,7 @@ use Rattle.rules.specs.Slots.{Rec, slotOf, Slot, addRecs, write, Write, 
 use Rattle.rules.specs.Memory.{Mem, withSlot, wordsAt, sizeR, headAt, free, slotAt, clock}
 use Rattle.rules.specs.Chain.{After, goesOn, broken, ends}
 use Rattle.rules.specs.Snapshot.{vacant}
-use Rattle.rules.specs.Outcome.{each, Outcome, refuse, refuseRead, slotTests, Test, rowTest}
+use Rattle.rules.specs.Outcome.{each, Outcome, refuseRead, refuse, slotTests, Test, rowTest}
 use Rattle.rules.specs.Create.{createOut}
 use Rattle.rules.specs.Begin.{beginOut}
 use Rattle.rules.specs.Read.{Sight, readEnd, blocked, sees, readOut}
