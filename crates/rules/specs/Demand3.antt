@@ -16,19 +16,19 @@ use Rattle.rules.specs.Sizes.{base, Roomy, Sizes}
 use Rattle.rules.specs.Numbers.{readNumber, numberOf}
 use Rattle.rules.specs.Lists.{orElse, keep, from}
 use Rattle.rules.specs.Versions.{versionAt}
-use Rattle.rules.specs.Slots.{Slot, Rec}
-use Rattle.rules.specs.Memory.{Mem, sizeR, sizeN, slotAt, clock, headAt}
+use Rattle.rules.specs.Slots.{Rec, Slot}
+use Rattle.rules.specs.Memory.{Mem, slotAt, sizeR, sizeN, clock, headAt}
 use Rattle.rules.specs.Chain.{ends, Chain}
 use Rattle.rules.specs.Snapshot.{horizon}
 use Rattle.rules.specs.Outcome.{refuse, slotTests}
 use Rattle.rules.specs.Create.{createOut}
-use Rattle.rules.specs.Read.{readOut}
+use Rattle.rules.specs.Read.{readOut, readAt, sees}
 use Rattle.rules.specs.Commit.{commitOut}
 use Rattle.rules.specs.Vacuum.{reclaimable, vacuumOut}
 use Rattle.rules.specs.Lookup.{ownRows, lookupOut, lookupAllOut}
 use Rattle.rules.specs.Run.{run, Call, replyNumber, step}
 use Rattle.rules.specs.History.{made, logOf, Log, whoIn, rowsIn, cellsIn, answerOf, valueIn, Val, ownIn, viewIn, lastIn}
-use Rattle.rules.specs.Reachable.{Reachable, In, TooLong, ReadSetFull, StillOpen, times, everywhere, chainAt, NowhereElse, freeAt, InOrder, behind, All, LockedFor, seesAt, BaseOf, rowsRead, TrueStill, Swept, Overtaken}
+use Rattle.rules.specs.Reachable.{Reachable, In, TooLong, ReadSetFull, saysAt, StillOpen, times, everywhere, chainAt, NowhereElse, freeAt, InOrder, behind, All, LockedFor, seesAt, BaseOf, rowsRead, TrueStill, Swept, Overtaken}
 use Rattle.rules.specs.Listing.{Comes, rowsOf}
 use Rattle.rules.specs.Validation.{commit-tested, accepted-commit-read-what-stands}
 use Rattle.rules.specs.Theory.View.{get-slots, viewOf}
@@ -40,7 +40,7 @@ use Rattle.rules.specs.Theory.CommitCall.{commit-facts}
 use Rattle.rules.specs.Theory.VacuumCall.{row-chain}
 use Rattle.rules.specs.Theory.Steps.{Sound, histOf}
 use Rattle.rules.specs.Theory.Never.{open-slot, never-damaged}
-use Rattle.rules.specs.Theory.ReadLaw.{reachable-sound, ReadIs, read-is, tells, ten, thirteen}
+use Rattle.rules.specs.Theory.ReadLaw.{reachable-sound, ReadIs, read-is, tells, found-says, ten, thirteen}
 use Rattle.rules.specs.Theory.OnePlace.{once-everywhere, inb-one, inb-none, nowhere-else, free-chain}
 use Rattle.rules.specs.Theory.Facts.{id-past, snapshot-order, head-live, later-superseded, bases-locked, locked-based, one-entry, one-record, records-true, reclaimed-unseen}
 use Rattle.rules.specs.Theory.CommitRefused.{commit-eight}
@@ -85,6 +85,10 @@ module _ {z : Sizes} (rm : Roomy z) (m : Mem z) (l : Log) (rc : Reachable m l) w
     pub read-is-own-else-last-commit-before-begin :
         (answer ≡ answerOf (valueIn l s row)) ⊎ (((answer ≡ ReadAnswer.Refused 10 row) × TooLong m l s row) ⊎ ((answer ≡ ReadAnswer.Refused 13 row) × ReadSetFull m l s row))
     read-is-own-else-last-commit-before-begin = tells m l so s row op inR answer is
+
+    -- And the version that it finds (cell 0: none) carries the value and the creator that history says.
+    pub version-read-has-the-creator-of-history : (c : ℕ) (new : List Rec) → readAt m (slotAt m s) (slotAt m s .recs) row ≡ sees c new → saysAt m c ≡ valueIn l s row
+    version-read-has-the-creator-of-history c new e = found-says m l so s row op inR c new e
 
     -- the answer is 10 exactly when none of the versions walked is visible and the chain is longer (and the row has no own write)
     pub read-refused-10-exactly-when-too-long : (answer ≡ ReadAnswer.Refused 10 row → TooLong m l s row) × (TooLong m l s row → answer ≡ ReadAnswer.Refused 10 row)

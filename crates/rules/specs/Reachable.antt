@@ -1,9 +1,9 @@
 -- Reachable stores: what an accepted creation and any calls after it lead to, whatever memory was lent. And the parts of a memory that
 -- the theorems on reachable stores speak of.
-use mathlib.Core.Bool.{Bool, false, cond, true, not}
+use mathlib.Core.Bool.{Bool, cond, false, true, not}
 use mathlib.Core.List.{List, _∷_, [], _++_}
 use mathlib.Core.Logic.{_≢_, _⊎_}
-use mathlib.Core.Option.{none, some}
+use mathlib.Core.Option.{Option, none, some}
 use mathlib.Core.Path.{_≡_}
 use Prim.Native.Nat.{ℕ, _<_, suc, _≤_}
 use lib.Dec.{eqb}
@@ -12,7 +12,7 @@ use Rattle.rules.specs.declared.Answer.{Answer}
 use Rattle.rules.specs.declared.Answer.the-variants.{Done, Vacuumed}
 use Rattle.rules.specs.declared.ReadAnswer.the-variants.{None}
 use Rattle.rules.specs.Sizes.{Sizes}
-use Rattle.rules.specs.Lists.{first, from, has, keep}
+use Rattle.rules.specs.Lists.{nonzero, first, from, has, keep}
 use Rattle.rules.specs.Versions.{versionAt, withNext, emptyVersion, linkAt, valueOf}
 use Rattle.rules.specs.Slots.{Rec, Write, Slot}
 use Rattle.rules.specs.Memory.{Mem, sizeN, headAt, free, slotAt, sizeR}
@@ -25,7 +25,7 @@ use Rattle.rules.specs.Read.{recorded}
 use Rattle.rules.specs.Abort.{news}
 use Rattle.rules.specs.Vacuum.{reclaimable, reports}
 use Rattle.rules.specs.Run.{Call, run}
-use Rattle.rules.specs.History.{Log, logOf, made, ownIn, whoIn, GoesOn}
+use Rattle.rules.specs.History.{Log, logOf, made, Val, said, ownIn, whoIn, GoesOn}
 
 -- m and its log l: calls with any arguments, refused ones and further creations among them, after an accepted creation
 pub record Reachable {z : Sizes} (m : Mem z) (l : Log) : Type 0 where
@@ -53,6 +53,12 @@ module _ {z : Sizes} where
   -- slot s sees the version in cell c
   abbrev pub seesAt : Mem z → ℕ → ℕ → Bool
   seesAt m s c = visible (slotAt m s) (versionAt (m .cells) c)
+
+  -- what the version in cell c says: its value and its creator; cell 0 says nothing
+  unfoldable pub saysAt : Mem z → ℕ → Option Val
+  saysAt m c =
+      let v = versionAt (m .cells) c in
+      cond (eqb c 0) none (some (said (cond (nonzero (v .keyed)) (some (v .key)) none) (v .xmin .0)))
 
   -- 10: "no visible version is among the first 64 of a chain that is longer"
   pub record TooLong (m : Mem z) (l : Log) (s row : ℕ) : Type 0 where

@@ -14,7 +14,7 @@ use Rattle.rules.specs.Slots.{Slot, Rec, Write}
 use Rattle.rules.specs.Memory.{Mem, headAt, slotAt, sizeR}
 use Rattle.rules.specs.Outcome.{Test, Outcome, refuse, slotTests, each}
 use Rattle.rules.specs.Read.{Sight, blocked, sees, answerAt, readRow}
-use Rattle.rules.specs.Lookup.{Found, stopped, got, listRow, isKey, findRow, find, lookupEnd, rowsToRead, ownRows, lookupAllOut, lookupOut, candidateTests}
+use Rattle.rules.specs.Lookup.{Found, stopped, got, listRow, isKey, find, findRow, lookupEnd, rowsToRead, ownRows, lookupAllOut, lookupOut, candidateTests}
 use Rattle.rules.specs.Reachable.{All}
 use Rattle.rules.specs.Theory.Cases.{byBool}
 use Rattle.rules.specs.Theory.View.{viewOf, get-slots}

@@ -21,7 +21,7 @@ use Rattle.rules.specs.Slots.{Rec, Slot, addRecs, Write}
 use Rattle.rules.specs.Memory.{Mem, slotAt, headAt, withSlot, wordsAt, sizeR}
 use Rattle.rules.specs.Outcome.{Test, refuse, out, each, slotTests, Outcome}
 use Rattle.rules.specs.Read.{recorded, sees, answerAt, blocked, Sight, readRow}
-use Rattle.rules.specs.Lookup.{Found, got, stopped, isKey, listRow, findRow, find, lookupEnd, lookupOut, ownRowTests, ownRows, rowsToRead, candidateTests, lookupAllOut}
+use Rattle.rules.specs.Lookup.{Found, got, stopped, isKey, listRow, find, findRow, lookupEnd, lookupOut, ownRowTests, ownRows, rowsToRead, candidateTests, lookupAllOut}
 use Rattle.rules.specs.History.{Log, whoIn, rowsIn, cellsIn, Val, ownIn, answerOf, viewIn}
 use Rattle.rules.specs.Reachable.{All, seesAt, walkedAt, chainAt}
 use Rattle.rules.specs.Listing.{hit, needs, trouble, troubleValue, looksPast, isNone, NoTrouble, rowsOf, FirstTrouble, Comes, its-list, its-trouble}
@@ -31,7 +31,7 @@ use Rattle.rules.specs.Theory.Effects.{slotV}
 use Rattle.rules.specs.Theory.Counting.{cnt}
 use Rattle.rules.specs.Theory.Inv.{Recorded, vers, all-map, Ver, ownFind}
 use Rattle.rules.specs.Theory.Places.{chain-cell}
-use Rattle.rules.specs.Theory.Reading.{Right, pickCell, full, own-write, no-version, old-version, new-version, long}
+use Rattle.rules.specs.Theory.Reading.{Right, pickCell, full, own-write, says-answer, no-version, old-version, new-version, long}
 use Rattle.rules.specs.Theory.Guard.{Passed, guard-passed, passed-join, passed-each}
 use Rattle.rules.specs.Theory.Good.{Owner, view-open}
 use Rattle.rules.specs.Theory.Recording.{Rightly, all-append, Noted, noted}
@@ -231,13 +231,13 @@ module _ {z : Sizes} (m : Mem z) (l : Log) (gd : Sound m l) (s : ℕ) (op : whoI
     stopped-full e = stops readSetFull e (omega arith)
 
     stepped : (x : Sight) → Right z st (gd .ghost) (histOf l) s r (t .recs ++ recs) x → Noted z st (gd .ghost) s (t .recs ++ recs) x → Stepped before r (listRow m t key room r recs rows x)
-    stepped _ (own-write v e c q) ok = let p = own-plain v e in no-new c (hit-own v c e q) (p .0) (p .1) ok
+    stepped _ (own-write v e c q) ok = let p = own-plain v e in no-new c (hit-own v c e (says-answer st c (some v) q)) (p .0) (p .1) ok
     stepped _ (no-version e v le′ p) ok = let q = nothing-plain (walk-at ∙ p) (rw chain-at at le′) in no-new 0 (hit-view 0 e (none-answer v)) (q .0) (q .1) ok
     stepped _ (old-version e c p k q y) ok =
-        no-new c (hit-view c e q) (found-near c (walk-at ∙ p)) (found-need c true e (walk-at ∙ p) (sym (recorded-is c k) ∙ y)) ok
+        no-new c (hit-view c e (says-answer st c (viewIn l s r) q)) (found-near c (walk-at ∙ p)) (found-need c true e (walk-at ∙ p) (sym (recorded-is c k) ∙ y)) ok
     stepped _ (new-version e c p k q y lt) ok =
         let nn = found-need c false e (walk-at ∙ p) (sym (recorded-is c k) ∙ y) in
-        listed c _ (hit-view c e q) (found-near c (walk-at ∙ p)) (rw (nn, lt-leb (z .reads) (length (slotAt m s .recs) + length (keep isNeed before)) (omega (arith, rs-length))) refl) ok
+        listed c _ (hit-view c e (says-answer st c (viewIn l s r) q)) (found-near c (walk-at ∙ p)) (rw (nn, lt-leb (z .reads) (length (slotAt m s .recs) + length (keep isNeed before)) (omega (arith, rs-length))) refl) ok
         (rw (length-append recs _, keep-snoc-true isNeed before r nn, length-append (keep isNeed before) (r ∷ []), sta .count) refl) (omega arith, tt)
     stepped _ (long e b) ok = stopped-past (past-trouble (nothing-past e (walk-at ∙ b .1) (rw chain-at at (b .0))))
     stepped _ (full e b) ok =

@@ -1,13 +1,13 @@
 -- A read on a store of which all holds, in the words of the memory and of the log.
 use mathlib.Core.Bool.{not, true≢false}
-use mathlib.Core.List.{_∷_, [], _++_}
+use mathlib.Core.List.{_∷_, [], _++_, List}
 use mathlib.Core.Logic.{_≢_, _⊎_, inl, inr}
 use mathlib.Core.Option.{some, Option, none}
 use mathlib.Core.Path.{_≡_, refl, sym, ap, _∙_, subst}
 use Prim.Native.Nat.{ℕ, _<_, _≤_}
 use native.Mathlib.Omega.{arith}
 use lib.ListN.{getD, take, length}
-use borrow.Author.Tests.{not-false, lt-leb}
+use borrow.Author.Tests.{not-false, lt-leb, ne-eqb}
 use Rattle.rules.specs.declared.Answer.{Answer}
 use Rattle.rules.specs.declared.Answer.the-variants.{Done}
 use Rattle.rules.specs.declared.ReadAnswer.{ReadAnswer}
@@ -16,19 +16,19 @@ use Rattle.rules.specs.Sizes.{Sizes, Roomy}
 use Rattle.rules.specs.Numbers.{badSize, chainTooLong, readSetFull, readNumber}
 use Rattle.rules.specs.Lists.{first}
 use Rattle.rules.specs.Versions.{at, versionAt}
-use Rattle.rules.specs.Slots.{Slot}
+use Rattle.rules.specs.Slots.{Slot, Rec}
 use Rattle.rules.specs.Memory.{Mem, slotAt, wordsAt, sizeR}
 use Rattle.rules.specs.Chain.{Chain}
 use Rattle.rules.specs.Outcome.{Outcome, refuse, test, fits, slotTests, rowTest, refuseRead}
 use Rattle.rules.specs.Create.{createOut}
-use Rattle.rules.specs.Read.{recorded, Sight, readEnd, answerAt, readOut, readAt}
+use Rattle.rules.specs.Read.{sees, recorded, Sight, readEnd, answerAt, readOut, readAt}
 use Rattle.rules.specs.History.{made, Log, whoIn, rowsIn, cellsIn, ownIn, answerOf, valueIn, viewIn, keyAnswer, Val}
-use Rattle.rules.specs.Reachable.{Reachable, chainAt, seesAt, walkedAt, TooLong, ReadSetFull}
+use Rattle.rules.specs.Reachable.{Reachable, chainAt, seesAt, walkedAt, TooLong, ReadSetFull, saysAt}
 use Rattle.rules.specs.Theory.SlotLaws.{recs-length}
 use Rattle.rules.specs.Theory.View.{viewOf, get-slots}
 use Rattle.rules.specs.Theory.Effects.{slotV}
-use Rattle.rules.specs.Theory.Inv.{vers}
-use Rattle.rules.specs.Theory.Reading.{Beyond, full, Full, pickCell, pick-visible, long, none-some, Right, own-write, no-version, old-version, new-version}
+use Rattle.rules.specs.Theory.Inv.{vers, verOf}
+use Rattle.rules.specs.Theory.Reading.{Beyond, full, Full, pickCell, pick-visible, long, none-some, Right, own-write, says-answer, no-version, old-version, new-version}
 use Rattle.rules.specs.Theory.Guard.{guardCase, Passed, passed-join, guard-passed}
 use Rattle.rules.specs.Theory.Good.{Owner}
 use Rattle.rules.specs.Theory.VacuumCall.{row-chain}
@@ -109,10 +109,10 @@ module _ {z : Sizes} (m : Mem z) (l : Log) (gd : Sound m l) (s row : ℕ) (op : 
 
   sight-is : (g : Sight) → Right z (viewOf m) (gd .ghost) (histOf l) s row (slotV (viewOf m) s .recs) g → ReadIs (readEnd m s g .answer)
   unfolding readEnd answerAt
-  sight-is _ (own-write v e c q) = is-told _ (q ∙ rw e refl) (λ a. none-some _ v (a .noOwn) e) (λ a. none-some _ v (a .noOwn) e)
+  sight-is _ (own-write v e c q) = is-told _ (says-answer (viewOf m) c (some v) q ∙ rw e refl) (λ a. none-some _ v (a .noOwn) e) (λ a. none-some _ v (a .noOwn) e)
   sight-is _ (no-version e v le p) = is-told None (rw (e, v) refl) (λ a. omega (arith, from-long a .0)) (λ a. none-some _ (from-full a .0) p (from-full a .1))
-  sight-is _ (old-version e c p k q y) = shown e c p (λ b. true≢false (sym y ∙ ap (λ (x : ℕ). recorded x (slotV (viewOf m) s .recs)) (some-same c (b .0) (sym p ∙ b .1)) ∙ b .2)) _ q
-  sight-is _ (new-version e c p k q y lt) = shown e c p (λ b. omega (arith, b .3)) _ q
+  sight-is _ (old-version e c p k q y) = shown e c p (λ b. true≢false (sym y ∙ ap (λ (x : ℕ). recorded x (slotV (viewOf m) s .recs)) (some-same c (b .0) (sym p ∙ b .1)) ∙ b .2)) _ (says-answer (viewOf m) c (viewIn l s row) q)
+  sight-is _ (new-version e c p k q y lt) = shown e c p (λ b. omega (arith, b .3)) _ (says-answer (viewOf m) c (viewIn l s row) q)
   sight-is _ (long e b) = is-long (to-long e b)
   sight-is _ (full e b) = is-full (to-full e b)
 
@@ -125,6 +125,21 @@ module _ {z : Sizes} (m : Mem z) (l : Log) (gd : Sound m l) (s row : ℕ) (op : 
       let a = right-at (rowsIn l) (cellsIn l) m (histOf l) gd s id row (slotV (viewOf m) s .recs) o inR in
       rw (guard-passed (refuseRead m) ts (readEnd m s (readAt m (slotAt m s) (slotAt m s .recs) row)) p)
       (subst (λ (t : Slot). ReadIs (readEnd m s (readAt m t (t .recs) row) .answer)) at-slot (sight-is _ a))
+
+  -- the version found, creator and all, is what history says
+  sight-says : (g : Sight) → Right z (viewOf m) (gd .ghost) (histOf l) s row (slotV (viewOf m) s .recs) g → (c : ℕ) (new : List Rec) → g ≡ sees c new → saysAt m c ≡ valueIn l s row
+  unfolding saysAt verOf
+  sight-says _ (own-write v e c q) c′ new y = let w : c ≡ c′ = cc in subst (λ (x : ℕ). saysAt m x ≡ valueIn l s row) w (rw (ne-eqb c 0 (q .0), e) (sym (q .1)))
+  sight-says _ (no-version e v le p) c′ new y = let w : 0 ≡ c′ = cc in subst (λ (x : ℕ). saysAt m x ≡ valueIn l s row) w (rw (e, v) refl)
+  sight-says _ (old-version e c p k q r) c′ new y = let w : c ≡ c′ = cc in subst (λ (x : ℕ). saysAt m x ≡ valueIn l s row) w (rw (ne-eqb c 0 (q .0), e) (sym (q .1)))
+  sight-says _ (new-version e c p k q r lt) c′ new y = let w : c ≡ c′ = cc in subst (λ (x : ℕ). saysAt m x ≡ valueIn l s row) w (rw (ne-eqb c 0 (q .0), e) (sym (q .1)))
+  sight-says _ (long e b) c′ new y = let w : _≡_ {A = ℕ} 0 1 = cc in absurd (omega arith)
+  sight-says _ (full e b) c′ new y = let w : _≡_ {A = ℕ} 0 1 = cc in absurd (omega arith)
+
+  pub found-says : (c : ℕ) (new : List Rec) → readAt m (slotAt m s) (slotAt m s .recs) row ≡ sees c new → saysAt m c ≡ valueIn l s row
+  found-says c new e =
+      sight-says _ (right-at (rowsIn l) (cellsIn l) m (histOf l) gd s (whoIn l s) row (slotV (viewOf m) s .recs) o inR) c new
+      (subst (λ (t : Slot). readAt m t (t .recs) row ≡ sees c new) (sym at-slot) e)
 
   -- ---- what the cases say
 

@@ -102,6 +102,13 @@ answer-val f c nz = byBool (nonzero (f c .keyed)) (λ e. rw (ne-eqb c 0 nz, e)) 
 pub none-some : {A : Type 0} (o : Option A) (a : A) → o ≡ none → o ≡ some a → ⊥
 none-some o a p q = let z : _≡_ {A = ℕ} 0 1 = cc in omega arith
 
+-- cell c is a version, and o is what it says
+abbrev pub Says : View → ℕ → Option Val → Type 0
+Says st c o = (c ≢ 0) × (o ≡ some (vers st c .val))
+
+pub says-answer : (st : View) (c : ℕ) (o : Option Val) → Says st c o → answerAt (st .vers) c ≡ answerOf o
+says-answer st c o a = answer-val (st .vers) c (a .0) ∙ ap answerOf (sym (a .1))
+
 -- a list that ends within k and shows nothing has nothing among its first k
 ends-none : (k : ℕ) (t : Slot) (f : ℕ → Ver) (l : List ℕ) → length l ≤ k → pick t f l ≡ none → pickCell t f (take k l) ≡ none
 unfolding first pick
@@ -118,13 +125,13 @@ Full z t f l rs = (c : ℕ) × (pickCell t f (take (z .walk) l) ≡ some c) × (
 
 -- a read of row r by slot i, where the records rs stand: what it comes to, each case exactly when
 pub data Right (z : Sizes) (st : View) (g : Ghost) (h : Hist) (i r : ℕ) (rs : List Rec) : Sight → Type 0 where
-  own-write : (v : Val) → h .own i r ≡ some v → (c : ℕ) → answerAt (st .vers) c ≡ answerOf (some v) → Right z st g h i r rs (sees c [])
+  own-write : (v : Val) → h .own i r ≡ some v → (c : ℕ) → Says st c (some v) → Right z st g h i r rs (sees c [])
   no-version : h .own i r ≡ none → h .view i r ≡ none → length (getD (g .rows) r []) ≤ z .walk → pickCell (slotV st i) (vers st) (take (z .walk) (getD (g .rows) r [])) ≡ none
       → Right z st g h i r rs (sees 0 [])
   old-version : h .own i r ≡ none → (c : ℕ) → pickCell (slotV st i) (vers st) (take (z .walk) (getD (g .rows) r [])) ≡ some c → cnt c (getD (g .rows) r []) ≢ 0
-      → answerAt (st .vers) c ≡ answerOf (h .view i r) → recorded c rs ≡ true → Right z st g h i r rs (sees c [])
+      → Says st c (h .view i r) → recorded c rs ≡ true → Right z st g h i r rs (sees c [])
   new-version : h .own i r ≡ none → (c : ℕ) → pickCell (slotV st i) (vers st) (take (z .walk) (getD (g .rows) r [])) ≡ some c → cnt c (getD (g .rows) r []) ≢ 0
-      → answerAt (st .vers) c ≡ answerOf (h .view i r) → recorded c rs ≡ false → length rs < z .reads → Right z st g h i r rs (sees c (rec r c (st .vers c .xmin .0) ∷ []))
+      → Says st c (h .view i r) → recorded c rs ≡ false → length rs < z .reads → Right z st g h i r rs (sees c (rec r c (st .vers c .xmin .0) ∷ []))
   long : h .own i r ≡ none → Beyond (z .walk) (slotV st i) (vers st) (getD (g .rows) r []) → Right z st g h i r rs (blocked chainTooLong r)
   full : h .own i r ≡ none → Full z (slotV st i) (vers st) (getD (g .rows) r []) rs → Right z st g h i r rs (blocked readSetFull r)
 
@@ -141,7 +148,7 @@ module _ (z : Sizes) (R n : ℕ) (st : View) (g : Ghost) (h : Hist) (i r : ℕ) 
   walked e _ (at-end le p) = no-version e (sym ((iv .opens i op) .reads r) ∙ p) le (ends-none (z .walk) t (vers st) row le p)
   walked e _ (at-cell c p s) =
       let nz = chain-cell R (suc n) st g h [] c r iv (s .among) .real in
-      let ok : answerAt (st .vers) c ≡ answerOf (h .view i r) = answer-val (st .vers) c nz ∙ ap answerOf (sym (s .shows) ∙ (iv .opens i op) .reads r) in
+      let ok : Says st c (h .view i r) = (nz, sym ((iv .opens i op) .reads r) ∙ s .shows) in
       byBool (recorded c rs)
       (λ y. rw y (old-version e c p (s .among) ok y))
       (λ y. rw y (byBool (leb (z .reads) (length rs)) (λ f. rw f (full e (c, p, y, leb-true _ _ f))) (λ f. rw f (new-version e c p (s .among) ok y (leb-false (z .reads) (length rs) f)))))
@@ -152,7 +159,7 @@ module _ (z : Sizes) (R n : ℕ) (st : View) (g : Ghost) (h : Hist) (i r : ℕ) 
   own-right (some w) a =
       let v = own-cell R (suc n) st g h i (w .new) iv (a .1) in
       let le : w .new ≤ n = le-of-suc-le-suc (v .1) in
-      rw (ne-eqb (w .new) 0 (v .0), le-leb (w .new) n le) (own-write (vers st (w .new) .val) (sym ((iv .opens i op) .owns r) ∙ a .0) (w .new) (answer-val (st .vers) (w .new) (v .0)))
+      rw (ne-eqb (w .new) 0 (v .0), le-leb (w .new) n le) (own-write (vers st (w .new) .val) (sym ((iv .opens i op) .owns r) ∙ a .0) (w .new) (v .0, refl))
 
   pub read-right : Right z st g h i r rs (readRow z n (st .vers) (st .heads r) t rs r)
   unfolding readRow
