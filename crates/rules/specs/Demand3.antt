@@ -44,11 +44,11 @@ use Rattle.rules.specs.Theory.ReadLaw.{reachable-sound, ReadIs, read-is,
 use Rattle.rules.specs.Theory.OnePlace.{once-everywhere, inb-one, inb-none, nowhere-else, free-chain}
 use Rattle.rules.specs.Theory.Facts.{id-past, snapshot-order, head-live, later-superseded, bases-locked, locked-based, one-entry, one-record, records-true, reclaimed-unseen}
 use Rattle.rules.specs.Theory.CommitRefused.{commit-eight}
-use Rattle.rules.specs.Theory.LookupLaw.{lookup-comes, lookup-all-comes, OneOf, comes-known}
 use Rattle.rules.specs.Theory.Validated.{standing-are-heads}
 use Rattle.rules.specs.Theory.Replaced.{bases-seen, tested-saw}
-use Rattle.rules.specs.Theory.Later.{later-is, later-records}
 use Rattle.rules.specs.Theory.VacuumLaw.{vacuum-comes, vacuum-full}
+use Rattle.rules.specs.Theory.LookupLaw.{lookup-comes, lookup-all-comes, OneOf, comes-known}
+use Rattle.rules.specs.Theory.Later.{later-is, later-records}
 use Rattle.rules.specs.Theory.Extending.{reachable-after}
 
 -- 16 slots of 504 words, and so on, are such sizes

@@ -1,4 +1,7 @@
--- The invariant of the theory, over views.
+-- The invariant of the theory, over views. Ghost lists say which cells stand where, and one counting equation says that each cell from 1
+-- on stands once in them all: so no cell is shared, none is lost, and 0 is nowhere. A snapshot is known by what it sees: ids below its xmin
+-- are seen, ids of open slots and ids not yet drawn are not. Of each open slot and row, the first version of the chain that it sees says
+-- what the history says it saw when it began. `pend` are the cells in hand between two steps of a call.
 use mathlib.Core.Bool.{cond, Bool, _&&_, not, true, false}
 use mathlib.Core.List.{List, [], _∷_}
 use mathlib.Core.Logic.{_≢_}

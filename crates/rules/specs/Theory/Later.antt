@@ -16,8 +16,8 @@ use Rattle.rules.specs.Reachable.{In, StillOpen, All, TrueStill}
 use Rattle.rules.specs.Theory.Steps.{Sound, run-sound, histOf}
 use Rattle.rules.specs.Theory.Never.{open-slot}
 use Rattle.rules.specs.Theory.ReadLaw.{ReadIs, read-is, answered}
-use Rattle.rules.specs.Theory.Continuing.{Bound, run-bound}
 use Rattle.rules.specs.Theory.Facts.{records-true}
+use Rattle.rules.specs.Theory.Continuing.{Bound, run-bound}
 use Rattle.rules.specs.Theory.RecordsStay.{run-keeps}
 
 module _ {z : Sizes} (m : Mem z) (l : Log) (so : Sound m l) (s : ℕ) (op : whoIn l s ≢ 0) where

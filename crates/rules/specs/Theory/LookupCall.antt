@@ -20,9 +20,9 @@ use Rattle.rules.specs.Theory.Cases.{byBool}
 use Rattle.rules.specs.Theory.View.{viewOf, get-slots}
 use Rattle.rules.specs.Theory.Effects.{slotV}
 use Rattle.rules.specs.Theory.Inv.{Hist}
+use Rattle.rules.specs.Theory.Recording.{Rightly, Noted, noted}
 use Rattle.rules.specs.Theory.Guard.{guardCase, passed-split}
 use Rattle.rules.specs.Theory.Good.{Good, Owner, view-open, owner}
-use Rattle.rules.specs.Theory.Recording.{Rightly, Noted, noted}
 use Rattle.rules.specs.Theory.ReadCall.{recs-good, recs-right}
 
 pub from-below : (R a k : ℕ) → a + k ≤ R → All (λ r. r < R) (from a k)

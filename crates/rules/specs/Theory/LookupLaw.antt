@@ -32,9 +32,9 @@ use Rattle.rules.specs.Theory.Counting.{cnt}
 use Rattle.rules.specs.Theory.Inv.{Recorded, vers, all-map, Ver, ownFind}
 use Rattle.rules.specs.Theory.Places.{chain-cell}
 use Rattle.rules.specs.Theory.Reading.{Right, pickCell, full, own-write, says-answer, no-version, old-version, new-version, long}
+use Rattle.rules.specs.Theory.Recording.{Rightly, all-append, Noted, noted}
 use Rattle.rules.specs.Theory.Guard.{Passed, guard-passed, passed-join, passed-each}
 use Rattle.rules.specs.Theory.Good.{Owner, view-open}
-use Rattle.rules.specs.Theory.Recording.{Rightly, all-append, Noted, noted}
 use Rattle.rules.specs.Theory.ReadCall.{recs-right}
 use Rattle.rules.specs.Theory.LookupCall.{keep-all, from-below}
 use Rattle.rules.specs.Theory.Steps.{Sound, histOf}

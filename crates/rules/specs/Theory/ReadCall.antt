@@ -20,10 +20,10 @@ use Rattle.rules.specs.Theory.Inv.{Hist, all-map}
 use Rattle.rules.specs.Theory.SlotSteps.{open-in}
 use Rattle.rules.specs.Theory.Reslot.{reslot-inv}
 use Rattle.rules.specs.Theory.Locks.{locks-put, held-refilled}
+use Rattle.rules.specs.Theory.Recording.{Rightly, Noted, noted}
 use Rattle.rules.specs.Theory.Guard.{guardCase, passed-split}
 use Rattle.rules.specs.Theory.Same.{Same, same-shaped}
 use Rattle.rules.specs.Theory.Good.{Good, Owner, view-open, owner}
-use Rattle.rules.specs.Theory.Recording.{Rightly, Noted, noted}
 
 module _ {z : Sizes} (R N : ℕ) (m : Mem z) (h : Hist) (gd : Good R N m h) (s id : ℕ) (o : Owner m s id) where
   abbrev st : View

@@ -1,4 +1,4 @@
--- What a read answers, against the history.
+-- What a read of one row comes to, against the history: the own write, the first visible version of the chain, or a refusal.
 use mathlib.Core.Bool.{true, false, cond}
 use mathlib.Core.List.{List, _∷_, []}
 use mathlib.Core.Logic.{_≢_}

@@ -36,10 +36,10 @@ use Rattle.rules.specs.Theory.SlotLaws.{slot-recs, slot-write}
 use Rattle.rules.specs.Theory.View.{viewOf}
 use Rattle.rules.specs.Theory.Effects.{slotV}
 use Rattle.rules.specs.Theory.Inv.{Hist}
+use Rattle.rules.specs.Theory.Recording.{Rightly, Noted}
 use Rattle.rules.specs.Theory.Guard.{guardCase, passed-split}
 use Rattle.rules.specs.Theory.Same.{slots-give-all, slots-publish-all}
 use Rattle.rules.specs.Theory.Good.{Good, Owner, owner}
-use Rattle.rules.specs.Theory.Recording.{Rightly, Noted}
 use Rattle.rules.specs.Theory.ReadCall.{recs-count, noted-at}
 use Rattle.rules.specs.Theory.LookupCall.{Fine, found-fine, rows-below, all-rows-below}
 use Rattle.rules.specs.Theory.Steps.{Sound, histOf, commits-who, step-sound}
