@@ -48,6 +48,7 @@ use Rattle.rules.specs.Theory.Validated.{standing-are-heads}
 use Rattle.rules.specs.Theory.Replaced.{bases-seen, tested-saw}
 use Rattle.rules.specs.Theory.VacuumLaw.{vacuum-comes, vacuum-full}
 use Rattle.rules.specs.Theory.LookupLaw.{lookup-comes, lookup-all-comes, OneOf, comes-known}
+use Rattle.rules.specs.Theory.NeverFull.{read-set-has-room, lookup-has-room, lookup-all-has-room}
 use Rattle.rules.specs.Theory.Later.{later-is, later-records}
 use Rattle.rules.specs.Theory.Extending.{reachable-after}
 
@@ -97,6 +98,10 @@ module _ {z : Sizes} (rm : Roomy z) (m : Mem z) (l : Log) (rc : Reachable m l) w
     -- the answer is 13 exactly when the version found is not recorded and the read set is full (and the row has no own write)
     pub read-refused-13-exactly-when-full : (answer ≡ ReadAnswer.Refused 13 row → ReadSetFull m l s row) × (ReadSetFull m l s row → answer ≡ ReadAnswer.Refused 13 row)
     read-refused-13-exactly-when-full = thirteen m l so s row op inR answer is
+
+  -- where the read set has room for a record of every row, no read is refused with 13: a reader has at most one record a row
+  pub no-13-with-room-for-every-row : rowsIn l ≤ z .reads → (s row : ℕ) → whoIn l s ≢ 0 → row < rowsIn l → ReadSetFull m l s row → ⊥
+  no-13-with-room-for-every-row enough s row op inR f = read-set-has-room m l so enough s op row inR f
 
   -- ---- 3: nobody changes it
 
@@ -245,6 +250,11 @@ module _ {z : Sizes} (rm : Roomy z) (m : Mem z) (l : Log) (rc : Reachable m l) w
     -- the same of all rows
     pub lookup-all-lists-exactly-the-rows-with-the-key : Comes m l s key room (from 0 (rowsIn l)) (lookupAllOut m s (whoIn l s) key room)
     lookup-all-lists-exactly-the-rows-with-the-key = lookup-all-comes m l so s op key room
+
+    -- nor, where the read set has room for a record of every row, is a lookup refused with 13
+    pub no-lookup-13-with-room-for-every-row : rowsIn l ≤ z .reads → (cands : List ℕ) → All (λ r. r < rowsIn l) cands
+        → (numberOf (lookupOut m s (whoIn l s) key cands room .answer) ≢ 13) × (numberOf (lookupAllOut m s (whoIn l s) key room .answer) ≢ 13)
+    no-lookup-13-with-room-for-every-row enough cands a = (lookup-has-room m l so enough s op key room cands a, lookup-all-has-room m l so enough s op key room)
 
     -- so it is refused only with 10, 13 or 14
     pub lookup-refused-only-with-10-13-14 : (cands : List ℕ) → All (λ r. r < rowsIn l) cands → OneOf (numberOf (lookupOut m s (whoIn l s) key cands room .answer))

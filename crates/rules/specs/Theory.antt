@@ -50,6 +50,7 @@ pub mod Validated
 pub mod Replaced
 pub mod VacuumLaw
 pub mod LookupLaw
+pub mod NeverFull
 pub mod Clock
 pub mod Continuing
 pub mod RecordsStay

@@ -13,7 +13,7 @@ use borrow.Author.Tests.{eq-eqb, ne-eqb}
 use Rattle.rules.specs.declared.Version.{Version}
 use Rattle.rules.specs.Sizes.{Sizes, READS, WRITES, FREE, CLOCK, ID, LOW}
 use Rattle.rules.specs.Lists.{fold, nonzero}
-use Rattle.rules.specs.Versions.{versionAt, version, linkAt, putVersion, keyedOf, keyOf, withValue, withNext, emptyVersion, withLock}
+use Rattle.rules.specs.Versions.{version, versionAt, linkAt, putVersion, keyedOf, keyOf, withValue, withNext, emptyVersion, withLock}
 use Rattle.rules.specs.Slots.{Slot, slotOf, emptied, Rec, addRecs, write, addWrite, Write}
 use Rattle.rules.specs.Memory.{Mem, withSlot, headAt, free, clock, wordsAt}
 use Rattle.rules.specs.Snapshot.{occupied, snapLow, snapTop}

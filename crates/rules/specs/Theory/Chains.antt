@@ -110,6 +110,15 @@ unfolding rsum
 inb-sum zero k = omega (arith, inb-zero k)
 inb-sum (suc n) k = omega (arith, inb-sum n k, inb-le k (suc n))
 
+rsum-ones : (n : ℕ) → rsum (λ _. 1) n ≡ n
+unfolding rsum
+rsum-ones zero = refl
+rsum-ones (suc n) = omega (arith, rsum-ones n)
+
+-- numbers below n, none twice: no more than n of them
+pub distinct-short : (n : ℕ) (l : List ℕ) → AllBelow n l → ((x : ℕ) → cnt x l ≤ 1) → length l ≤ n
+distinct-short n l b le = omega (arith, length-counts n l b, rsum-le (λ x. cnt x l) (λ _. 1) n le, rsum-ones n)
+
 -- a list in which no cell stands twice is no longer than the number of cells
 pub list-short : (N : ℕ) (l : List ℕ) → AllBelow (suc N) l → ((x : ℕ) → cnt x l ≤ inb (suc N) x) → length l ≤ N
 list-short N l b le =

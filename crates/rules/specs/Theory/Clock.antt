@@ -12,7 +12,7 @@ use Rattle.rules.specs.Versions.{versionAt}
 use Rattle.rules.specs.Slots.{Write}
 use Rattle.rules.specs.Memory.{Mem, clock, slotAt}
 use Rattle.rules.specs.Chain.{After, goesOn, broken, ends}
-use Rattle.rules.specs.Outcome.{Outcome, refuse, refuseRead, Test}
+use Rattle.rules.specs.Outcome.{Outcome, refuseRead, refuse, Test}
 use Rattle.rules.specs.Read.{Sight, readEnd, blocked, sees, readOut}
 use Rattle.rules.specs.Write.{writeNow, prepared, writeOut}
 use Rattle.rules.specs.Commit.{publish, publishAll, commitOut}

@@ -4,12 +4,11 @@ use mathlib.Core.List.{List, [], _∷_}
 use mathlib.Core.Logic.{_≢_}
 use mathlib.Core.Option.{none}
 use mathlib.Core.Path.{_≡_, refl, _∙_, subst, sym, ap}
-use Prim.Native.Nat.{ℕ, _≤_, min, _<_, zero, suc}
-use native.Mathlib.Nat.{le-of-suc-le-suc}
+use Prim.Native.Nat.{ℕ, _≤_, min, _<_, suc}
 use native.Mathlib.Omega.{arith}
-use lib.Dec.{leb, eqb, ltb}
-use lib.ListN.{getD, length}
-use borrow.Author.Tests.{leb-true, eq-eqb, leb-false, ne-eqb, ltb-true, ltb-false}
+use lib.Dec.{leb, eqb}
+use lib.ListN.{getD}
+use borrow.Author.Tests.{leb-true, eq-eqb, leb-false, ne-eqb}
 use Rattle.rules.specs.Sizes.{Sizes}
 use Rattle.rules.specs.Lists.{least, has, greatest, first}
 use Rattle.rules.specs.Versions.{at, versionAt}
@@ -27,7 +26,7 @@ use Rattle.rules.specs.Theory.View.{View, viewOf, get-slots}
 use Rattle.rules.specs.Theory.Effects.{slotV}
 use Rattle.rules.specs.Theory.Counting.{cnt, cnt-other, cnt-same, cnt-tail}
 use Rattle.rules.specs.Theory.Inv.{Taken, Ver, ownFind, Entries, Apart, Hist, Inv, vers, verOf, Open, all-map, Recorded, vis-is}
-use Rattle.rules.specs.Theory.Places.{chain-cell, head-among}
+use Rattle.rules.specs.Theory.Places.{chain-cell, head-among, placed-row}
 use Rattle.rules.specs.Theory.SlotSteps.{open-in}
 use Rattle.rules.specs.Theory.CommitView.{no-entry}
 use Rattle.rules.specs.Theory.Locks.{Holds, Based}
@@ -78,11 +77,6 @@ taken-order k t a =
       early = a .early;
     }
 
-pub getD-past : (l : List (List ℕ)) (i : ℕ) → length l ≤ i → getD l i [] ≡ []
-getD-past [] i h = refl
-getD-past (x ∷ l) zero h = absurd (omega arith)
-getD-past (x ∷ l) (suc i) h = getD-past l i (le-of-suc-le-suc h)
-
 -- ---- rows of a list of writes, of a list of records
 no-row : (f : ℕ → Ver) (r : ℕ) (ws : List Write) → ownFind f ws r ≡ none → cnt r (ownRows ws) ≡ 0
 unfolding cnt
@@ -96,12 +90,12 @@ entry-once f R t r (w ∷ l) e = byEq r (w .row)
     (λ q. rw q (omega (arith, cnt-same (w .row) (ownRows l), no-row f (w .row) l (e .3))))
     (λ q. omega (arith, cnt-other r (w .row) (ownRows l) q, entry-once f R t r l (e .4)))
 
-no-rec : (r : ℕ) (l : List Rec) → All (λ p. p .row ≢ r) l → cnt r (rowsRead l) ≡ 0
+pub no-rec : (r : ℕ) (l : List Rec) → All (λ p. p .row ≢ r) l → cnt r (rowsRead l) ≡ 0
 unfolding cnt
 no-rec r [] a = refl
 no-rec r (q ∷ l) a = cnt-other r (q .row) (rowsRead l) (λ y. a .0 (sym y)) ∙ no-rec r l (a .1)
 
-rec-once : (r : ℕ) (l : List Rec) → Apart l → cnt r (rowsRead l) ≤ 1
+pub rec-once : (r : ℕ) (l : List Rec) → Apart l → cnt r (rowsRead l) ≤ 1
 unfolding cnt
 rec-once r [] a = omega arith
 rec-once r (q ∷ l) a = byEq r (q .row)
@@ -195,16 +189,12 @@ module _ {z : Sizes} (R N : ℕ) (m : Mem z) (h : Hist) (gd : Good R N m h) wher
     pub one-record : (r : ℕ) → times r (rowsRead (slotAt m s .recs)) ≤ 1
     one-record r = rw (times-is r (rowsRead (slotAt m s .recs))) (subst (λ (t : Slot). cnt r (rowsRead (t .recs)) ≤ 1) at-slot (rec-once r (slotV st s .recs) (q .apart)))
 
-    row-of-placed : (r c : ℕ) → cnt c (rowOf r) ≢ 0 → r < R
-    unfolding cnt
-    row-of-placed r c nz = byBool (ltb r R) (λ e. ltb-true r R e) (λ e. absurd (nz (ap (cnt c) (getD-past (gd .ghost .rows) r (omega (arith, ltb-false r R e, iv .rowed))))))
-
     pub records-true : All (TrueStill m s) (slotAt m s .recs)
     unfolding verOf
     records-true =
         let one : (x : Rec) → Recorded (vers st) (gd .ghost .rows) (slotV st s) x → TrueStill m s x =
         λ x a.
-        let lt = row-of-placed (x .row) (x .cell) (a .placed) in
+        let lt = placed-row R (suc N) st (gd .ghost) h [] (x .row) (x .cell) iv (a .placed) in
         let k = chain-cell R (suc N) st (gd .ghost) h [] (x .cell) (x .row) iv (a .placed) in
         record {
           placed = times-is (x .cell) (chainAt m (x .row) .cells) ∙ subst (λ (y : List ℕ). cnt (x .cell) y ≡ 1) (at-row (x .row) lt) (k .single);

@@ -20,7 +20,7 @@ use Rattle.rules.specs.Read.{sees}
 use Rattle.rules.specs.Reachable.{basesOf, All}
 use Rattle.rules.specs.Theory.Cases.{byEq, byBool, and-true}
 use Rattle.rules.specs.Theory.SlotLaws.{withWrite}
-use Rattle.rules.specs.Theory.View.{View, emptySlot, upd-same, upd, upd-other}
+use Rattle.rules.specs.Theory.View.{View, emptySlot, upd, upd-same, upd-other}
 use Rattle.rules.specs.Theory.Effects.{slotV, withVers, giveV, giveAllV, publishV, publishAllV, putSlot, unlockV, lockV, unlockOneV, prepareV}
 use Rattle.rules.specs.Theory.Counting.{cnt, cnt-tail, cnt-head, cnt-other}
 use Rattle.rules.specs.Theory.Inv.{vers, Ver, all-map, Ghost, Hist, Inv, Entries}

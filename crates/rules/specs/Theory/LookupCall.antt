@@ -14,7 +14,7 @@ use Rattle.rules.specs.Slots.{Slot, Rec, Write}
 use Rattle.rules.specs.Memory.{Mem, headAt, slotAt, sizeR}
 use Rattle.rules.specs.Outcome.{Test, Outcome, refuse, slotTests, each}
 use Rattle.rules.specs.Read.{Sight, blocked, sees, answerAt, readRow}
-use Rattle.rules.specs.Lookup.{Found, stopped, got, listRow, isKey, find, findRow, lookupEnd, rowsToRead, ownRows, lookupAllOut, lookupOut, candidateTests}
+use Rattle.rules.specs.Lookup.{Found, stopped, got, listRow, isKey, findRow, find, lookupEnd, rowsToRead, ownRows, lookupAllOut, lookupOut, candidateTests}
 use Rattle.rules.specs.Reachable.{All}
 use Rattle.rules.specs.Theory.Cases.{byBool}
 use Rattle.rules.specs.Theory.View.{viewOf, get-slots}
@@ -52,7 +52,7 @@ module _ {z : Sizes} (R N : ℕ) (m : Mem z) (h : Hist) (gd : Good R N m h) (s i
       (λ e. rw e (byBool (leb room (length rows)) (λ f. rw f tt) (λ f. rw f ok)))
       (λ e. rw e ok)
 
-  row-fine : (r : ℕ) → r < R → (f : Found) → Fine f → Fine (findRow m t key room r f)
+  pub row-fine : (r : ℕ) → r < R → (f : Found) → Fine f → Fine (findRow m t key room r f)
   unfolding findRow
   row-fine r lt (stopped k x) a = tt
   row-fine r lt (got recs rows) a =

@@ -21,7 +21,7 @@ use Rattle.rules.specs.Slots.{Rec, Slot, addRecs, Write}
 use Rattle.rules.specs.Memory.{Mem, slotAt, headAt, withSlot, wordsAt, sizeR}
 use Rattle.rules.specs.Outcome.{Test, refuse, out, each, slotTests, Outcome}
 use Rattle.rules.specs.Read.{recorded, sees, answerAt, blocked, Sight, readRow}
-use Rattle.rules.specs.Lookup.{Found, got, stopped, isKey, listRow, find, findRow, lookupEnd, lookupOut, ownRowTests, ownRows, rowsToRead, candidateTests, lookupAllOut}
+use Rattle.rules.specs.Lookup.{Found, got, stopped, isKey, listRow, findRow, find, lookupEnd, lookupOut, ownRowTests, ownRows, rowsToRead, candidateTests, lookupAllOut}
 use Rattle.rules.specs.History.{Log, whoIn, rowsIn, cellsIn, Val, ownIn, answerOf, viewIn}
 use Rattle.rules.specs.Reachable.{All, seesAt, walkedAt, chainAt}
 use Rattle.rules.specs.Listing.{hit, needs, trouble, troubleValue, looksPast, isNone, NoTrouble, rowsOf, FirstTrouble, Comes, its-list, its-trouble}

@@ -94,7 +94,7 @@ module _ {z : Sizes} (m : Mem z) (l : Log) (gd : Sound m l) (s row : ℕ) (op : 
     most = let ge : z .reads ≤ length (slotAt m s .recs) = rw at-slot at (b .3) in omega (arith, few);
   }
 
-  from-full : ReadSetFull m l s row → fullSet
+  pub from-full : ReadSetFull m l s row → fullSet
   from-full a = (a .cell, sym walk-is ∙ a .finds, rw at-slot (a .unrecorded), rw at-slot (omega (arith, a .most)))
 
   -- a read's answer, each case exactly when

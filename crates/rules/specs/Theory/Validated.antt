@@ -3,11 +3,9 @@ use mathlib.Core.Bool.{true, false≢true}
 use mathlib.Core.List.{List, [], _∷_}
 use mathlib.Core.Logic.{_≢_, ⊎-elim}
 use mathlib.Core.Path.{_≡_, refl, ap, _∙_, sym, subst}
-use Prim.Native.Nat.{ℕ, _<_}
-use native.Mathlib.Omega.{arith}
-use lib.Dec.{ltb}
+use Prim.Native.Nat.{ℕ, _<_, suc}
 use lib.ListN.{getD}
-use borrow.Author.Tests.{ne-eqb, lt-ltb, ltb-true, ltb-false}
+use borrow.Author.Tests.{ne-eqb, lt-ltb}
 use Rattle.rules.specs.declared.Version.{Version}
 use Rattle.rules.specs.Sizes.{Sizes}
 use Rattle.rules.specs.Versions.{at, versionAt}
@@ -16,13 +14,13 @@ use Rattle.rules.specs.Memory.{Mem, headAt, slotAt}
 use Rattle.rules.specs.Visible.{creatorVisible}
 use Rattle.rules.specs.Reachable.{All}
 use Rattle.rules.specs.Validation.{Stands}
-use Rattle.rules.specs.Theory.Cases.{byEq, and-true, byBool}
+use Rattle.rules.specs.Theory.Cases.{byEq, and-true}
 use Rattle.rules.specs.Theory.View.{View, viewOf, get-slots}
 use Rattle.rules.specs.Theory.Effects.{slotV}
 use Rattle.rules.specs.Theory.Counting.{cnt, cnt-other}
 use Rattle.rules.specs.Theory.Inv.{Hist, vis, verOf, Recorded, vers}
+use Rattle.rules.specs.Theory.Places.{placed-row}
 use Rattle.rules.specs.Theory.Good.{Good, Owner, view-open}
-use Rattle.rules.specs.Theory.Facts.{getD-past}
 
 module _ {z : Sizes} (R N : ℕ) (m : Mem z) (h : Hist) (gd : Good R N m h) (s id : ℕ) (o : Owner m s id) where
   abbrev st : View
@@ -55,13 +53,9 @@ module _ {z : Sizes} (R N : ℕ) (m : Mem z) (h : Hist) (gd : Good R N m h) (s i
       let sx = (rw e at (gd .inv .tops (q .row))) .3 (q .cell) k in
       absurd (sx .nonzero (live (st .vers (q .cell)) q a (rc .seen) (λ x y nz w. sx .shut s (sym w ∙ sym y)))))
 
-  row-in : (r c : ℕ) → cnt c (getD (gd .ghost .rows) r []) ≢ 0 → r < R
-  unfolding cnt
-  row-in r c nz = byBool (ltb r R) (λ e. ltb-true r R e) (λ e. absurd (nz (ap (cnt c) (getD-past (gd .ghost .rows) r (omega (arith, ltb-false r R e, gd .inv .rowed))))))
-
   all-heads-go : (l : List Rec) → All (Recorded (vers st) (gd .ghost .rows) t) l → All (λ q. Stands t (st .vers (q .cell)) q) l → All (λ (q : Rec). q .cell ≡ headAt m (q .row)) l
   all-heads-go [] a b = tt
-  all-heads-go (q ∷ l) a b = (in-head q (getD (gd .ghost .rows) (q .row) []) refl (row-in (q .row) (q .cell) (a .0 .placed)) (a .0) (b .0), all-heads-go l (a .1) (b .1))
+  all-heads-go (q ∷ l) a b = (in-head q (getD (gd .ghost .rows) (q .row) []) refl (placed-row R (suc N) st (gd .ghost) h [] (q .row) (q .cell) (gd .inv) (a .0 .placed)) (a .0) (b .0), all-heads-go l (a .1) (b .1))
 
   pub standing-are-heads : All (λ q. Stands (slotAt m s) (versionAt (m .cells) (q .cell)) q) (slotAt m s .recs) → All (λ (q : Rec). q .cell ≡ headAt m (q .row)) (slotAt m s .recs)
   standing-are-heads a =
