@@ -1,7 +1,8 @@
 -- The history of a store: a log of what was accepted, newest first, told by the calls and their replies alone; and what the log says.
-use mathlib.Core.Bool.{cond, _&&_}
+use mathlib.Core.Bool.{cond, _&&_, Bool, false, true}
 use mathlib.Core.List.{List, [], _∷_, _++_}
 use mathlib.Core.Option.{Option, none, some}
+use mathlib.Core.Path.{_≡_}
 use Prim.Native.Nat.{ℕ}
 use lib.Dec.{eqb}
 use Rattle.rules.specs.declared.Answer.{Answer}
@@ -10,7 +11,7 @@ use Rattle.rules.specs.declared.ReadAnswer.{ReadAnswer}
 use Rattle.rules.specs.declared.ReadAnswer.the-variants.{Empty, Key, None}
 use Rattle.rules.specs.Lists.{orElse}
 use Rattle.rules.specs.Vacuum.{reports}
-use Rattle.rules.specs.Run.{create, commit, Call, Reply, looked, swept, gave, begin, read, write, abort, vacuum, lookup, lookupAll}
+use Rattle.rules.specs.Run.{commit, write, Call, Reply, looked, swept, create, gave, begin, read, abort, vacuum, lookup, lookupAll}
 
 -- what a write says: a value, which is a key or none, and its creator's id
 pub record Val : Type 0 where
@@ -22,7 +23,7 @@ said v x = record { value = v; creator = x }
 
 pub data Event : Type 0 where
   -- N, R
-  created : ℕ → ℕ → Event
+  made : ℕ → ℕ → Event
   -- slot, id
   began : ℕ → ℕ → Event
   -- slot, row
@@ -40,7 +41,7 @@ Log = List Event
 -- the id that is open in slot s, 0 where none is
 unfoldable pub whoIn : Log → ℕ → ℕ
 whoIn [] s = 0
-whoIn (created n r ∷ l) s = whoIn l s
+whoIn (made n r ∷ l) s = whoIn l s
 whoIn (began a id ∷ l) s = cond (eqb s a) id (whoIn l s)
 whoIn (wrote a row v ∷ l) s = whoIn l s
 whoIn (committed row v ∷ l) s = whoIn l s
@@ -49,7 +50,7 @@ whoIn (ended a ∷ l) s = cond (eqb s a) 0 (whoIn l s)
 -- the last commit of row r
 unfoldable pub lastIn : Log → ℕ → Option Val
 lastIn [] r = none
-lastIn (created n k ∷ l) r = lastIn l r
+lastIn (made n k ∷ l) r = lastIn l r
 lastIn (began a id ∷ l) r = lastIn l r
 lastIn (wrote a row v ∷ l) r = lastIn l r
 lastIn (committed row v ∷ l) r = cond (eqb r row) (some v) (lastIn l r)
@@ -58,7 +59,7 @@ lastIn (ended a ∷ l) r = lastIn l r
 -- the last commit of row r made before the transaction of slot s began
 unfoldable pub viewIn : Log → ℕ → ℕ → Option Val
 viewIn [] s r = none
-viewIn (created n k ∷ l) s r = viewIn l s r
+viewIn (made n k ∷ l) s r = viewIn l s r
 viewIn (began a id ∷ l) s r = cond (eqb s a) (lastIn l r) (viewIn l s r)
 viewIn (wrote a row v ∷ l) s r = viewIn l s r
 viewIn (committed row v ∷ l) s r = viewIn l s r
@@ -67,7 +68,7 @@ viewIn (ended a ∷ l) s r = viewIn l s r
 -- the last accepted write of row r by the transaction of slot s
 unfoldable pub ownIn : Log → ℕ → ℕ → Option Val
 ownIn [] s r = none
-ownIn (created n k ∷ l) s r = ownIn l s r
+ownIn (made n k ∷ l) s r = ownIn l s r
 ownIn (began a id ∷ l) s r = cond (eqb s a) none (ownIn l s r)
 ownIn (wrote a row v ∷ l) s r = cond (eqb s a && eqb r row) (some v) (ownIn l s r)
 ownIn (committed row v ∷ l) s r = ownIn l s r
@@ -89,7 +90,7 @@ answerOf (some v) = keyAnswer (v .value)
 -- R and N of the creation
 unfoldable pub rowsIn : Log → ℕ
 rowsIn [] = 0
-rowsIn (created n r ∷ l) = r
+rowsIn (made n r ∷ l) = r
 rowsIn (began a id ∷ l) = rowsIn l
 rowsIn (wrote a row v ∷ l) = rowsIn l
 rowsIn (committed row v ∷ l) = rowsIn l
@@ -97,7 +98,7 @@ rowsIn (ended a ∷ l) = rowsIn l
 
 unfoldable pub cellsIn : Log → ℕ
 cellsIn [] = 0
-cellsIn (created n r ∷ l) = n
+cellsIn (made n r ∷ l) = n
 cellsIn (began a id ∷ l) = cellsIn l
 cellsIn (wrote a row v ∷ l) = cellsIn l
 cellsIn (committed row v ∷ l) = cellsIn l
@@ -131,24 +132,28 @@ module _ {A : Type 0} where
   ifWrote (Listed n) a b = b
   ifWrote (Answer.Refused n x) a b = b
 
--- the writes of slot s since it began, newest first, as commits: the last write of a row is met first
-unfoldable pub commitsOf : Log → ℕ → Log
-commitsOf [] s = []
-commitsOf (created n r ∷ l) s = commitsOf l s
-commitsOf (began a id ∷ l) s = cond (eqb s a) [] (commitsOf l s)
-commitsOf (wrote a row v ∷ l) s = cond (eqb s a) (committed row v ∷ commitsOf l s) (commitsOf l s)
-commitsOf (committed row v ∷ l) s = commitsOf l s
-commitsOf (ended a ∷ l) s = commitsOf l s
+-- the accepted writes of the transaction of slot s, newest first: the last write of a row is met first
+unfoldable pub writesIn : Log → ℕ → List (ℕ × Val)
+writesIn [] s = []
+writesIn (made n r ∷ l) s = writesIn l s
+writesIn (began a id ∷ l) s = cond (eqb s a) [] (writesIn l s)
+writesIn (wrote a row v ∷ l) s = cond (eqb s a) ((row, v) ∷ writesIn l s) (writesIn l s)
+writesIn (committed row v ∷ l) s = writesIn l s
+writesIn (ended a ∷ l) s = writesIn l s
+
+unfoldable pub commits : List (ℕ × Val) → Log
+commits [] = []
+commits (w ∷ l) = committed (w .0) (w .1) ∷ commits l
 
 -- one call and its reply. Refused calls, reads, lookups and vacuums leave the log; "an accepted creation call starts a new history"
 unfoldable pub logged : Call → Reply → Log → Log
 logged c (looked a) l = l
 logged c (swept a reports) l = l
-logged (create n r) (gave a rows) l = ifDone a (created n r ∷ []) l
+logged (create n r) (gave a rows) l = ifDone a (made n r ∷ []) l
 logged begin (gave a rows) l = ifBegun a (λ s id. began s id ∷ l) l
 logged (read s id row) (gave a rows) l = l
 logged (write s id row v) (gave a rows) l = ifWrote a (wrote s row (said v id) ∷ l) l
-logged (commit s id) (gave a rows) l = ifDone a (ended s ∷ (commitsOf l s ++ l)) l
+logged (commit s id) (gave a rows) l = ifDone a (ended s ∷ (commits (writesIn l s) ++ l)) l
 logged (abort s id) (gave a rows) l = ifDone a (ended s ∷ l) l
 logged (vacuum row request room) (gave a rows) l = l
 logged (lookup s id key cands room) (gave a rows) l = l
@@ -158,3 +163,23 @@ unfoldable pub logOf : List Call → List Reply → Log → Log
 logOf [] rs l = l
 logOf (c ∷ cs) [] l = l
 logOf (c ∷ cs) (r ∷ rs) l = logOf cs rs (logged c r l)
+
+-- an accepted creation
+unfoldable pub restarts : Call → Reply → Bool
+restarts c (looked a) = false
+restarts c (swept a reports) = false
+restarts (create n r) (gave a rows) = ifDone a true false
+restarts begin (gave a rows) = false
+restarts (read s id row) (gave a rows) = false
+restarts (write s id row v) (gave a rows) = false
+restarts (commit s id) (gave a rows) = false
+restarts (abort s id) (gave a rows) = false
+restarts (vacuum row request room) (gave a rows) = false
+restarts (lookup s id key cands room) (gave a rows) = false
+restarts (lookupAll s id key room) (gave a rows) = false
+
+-- calls and replies that go on with one history
+abbrev pub GoesOn : List Call → List Reply → Type 0
+GoesOn [] rs = Unit {0}
+GoesOn (c ∷ cs) [] = Unit {0}
+GoesOn (c ∷ cs) (r ∷ rs) = (restarts c r ≡ false) × GoesOn cs rs

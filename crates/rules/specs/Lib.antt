@@ -22,5 +22,12 @@ pub mod Lent
 pub mod WordLaws
 pub mod Verdicts
 pub mod WorkedNumbers
+pub mod Refusals
 pub mod History
+pub mod Reachable
+pub mod Listing
 pub mod Theory
+pub mod Validation
+pub mod WalkLimit
+pub mod Demand3
+pub mod ReaderRun

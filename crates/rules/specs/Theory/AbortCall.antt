@@ -15,13 +15,14 @@ use Rattle.rules.specs.Memory.{Mem, sizeN, slotAt, withCells, withSlot, 
 use Rattle.rules.specs.Outcome.{each, Outcome, refuse, slotTests}
 use Rattle.rules.specs.Abort.{abortTests, news, unlockBase, giveBack, abortOut}
 use Rattle.rules.specs.History.{ifDone}
+use Rattle.rules.specs.Reachable.{All}
 use Rattle.rules.specs.Theory.Cases.{byEq}
 use Rattle.rules.specs.Theory.Shape.{Shaped}
 use Rattle.rules.specs.Theory.View.{View, viewOf, slotsOf, emptySlot, get-slots}
 use Rattle.rules.specs.Theory.Effects.{putSlot, giveAllV, giveV, withVers, unlockV, slotV}
 use Rattle.rules.specs.Theory.Bridge.{BasesIn, AllCells, unlock-vers, view-close, view-give-all, all-cells}
 use Rattle.rules.specs.Theory.Counting.{cnt}
-use Rattle.rules.specs.Theory.Inv.{All, Hist}
+use Rattle.rules.specs.Theory.Inv.{Hist}
 use Rattle.rules.specs.Theory.Places.{chain-cell, head-among}
 use Rattle.rules.specs.Theory.SlotSteps.{ids-differ, open-in}
 use Rattle.rules.specs.Theory.Cells.{abortV, abort-inv}

@@ -1,4 +1,4 @@
--- Cells move: given back, taken from the middle of a chain, handed out.
+-- Cells given back, locks set and cleared, and of these the whole abort.
 use mathlib.Core.Bool.{_&&_}
 use mathlib.Core.List.{List, _∷_, []}
 use mathlib.Core.Logic.{_≢_}
@@ -12,11 +12,12 @@ use Rattle.rules.specs.Lists.{fold, nonzero}
 use Rattle.rules.specs.Versions.{emptyVersion, withLock}
 use Rattle.rules.specs.Slots.{Write}
 use Rattle.rules.specs.Abort.{news}
+use Rattle.rules.specs.Reachable.{All}
 use Rattle.rules.specs.Theory.Cases.{byBool}
 use Rattle.rules.specs.Theory.View.{View, upd-other, upd, upd-same, emptySlot}
 use Rattle.rules.specs.Theory.Effects.{giveV, giveAllV, withVers, slotV, lockV, unlockV, putSlot}
 use Rattle.rules.specs.Theory.Counting.{cnt}
-use Rattle.rules.specs.Theory.Inv.{Ghost, Hist, Inv, places, inb, Ver, vers, nexts, spelled-frame, top-frame, open-frame, verOf, All, Spelled, Top, pick, Single, ownFind, Entries, Recorded}
+use Rattle.rules.specs.Theory.Inv.{Ghost, Hist, Inv, places, inb, Ver, vers, nexts, spelled-frame, top-frame, open-frame, verOf, Spelled, Top, pick, Single, ownFind, Entries, Recorded}
 use Rattle.rules.specs.Theory.Places.{pend-alone}
 use Rattle.rules.specs.Theory.SlotSteps.{close-inv}
 use Rattle.rules.specs.Theory.Publish.{versF, nextsF, part-off, ofNext, part-same}

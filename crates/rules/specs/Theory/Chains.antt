@@ -58,7 +58,7 @@ spelled-same f h (c ∷ a) (d ∷ b) s t =
     let r = spelled-same f (f c) a b (s .2) (subst (λ (x : ℕ). Spelled f (f x) b) (sym e) (t .2)) in
     rw (e, r)
 
-take-whole : (k : ℕ) (l : List ℕ) → length l ≤ k → take k l ≡ l
+pub take-whole : (k : ℕ) (l : List ℕ) → length l ≤ k → take k l ≡ l
 take-whole zero [] h = refl
 take-whole zero (c ∷ l) h = absurd (omega arith)
 take-whole (suc k) [] h = refl
@@ -110,17 +110,29 @@ unfolding rsum
 inb-sum zero k = omega (arith, inb-zero k)
 inb-sum (suc n) k = omega (arith, inb-sum n k, inb-le k (suc n))
 
+rsum-ones : (n : ℕ) → rsum (λ _. 1) n ≡ n
+unfolding rsum
+rsum-ones zero = refl
+rsum-ones (suc n) = omega (arith, rsum-ones n)
+
+-- numbers below n, none twice: no more than n of them
+pub distinct-short : (n : ℕ) (l : List ℕ) → AllBelow n l → ((x : ℕ) → cnt x l ≤ 1) → length l ≤ n
+distinct-short n l b le = omega (arith, length-counts n l b, rsum-le (λ x. cnt x l) (λ _. 1) n le, rsum-ones n)
+
+-- a list in which no cell stands twice is no longer than the number of cells
+pub list-short : (N : ℕ) (l : List ℕ) → AllBelow (suc N) l → ((x : ℕ) → cnt x l ≤ inb (suc N) x) → length l ≤ N
+list-short N l b le =
+    let a = length-counts (suc N) l b in
+    let c = rsum-le (λ x. cnt x l) (inb (suc N)) (suc N) le in
+    omega (arith, inb-sum N (suc N))
+
 module _ (R N : ℕ) (st : View) (g : Ghost) (h : Hist) (r : ℕ) (iv : Inv R (suc N) st g h []) where
   pub row-below : AllBelow (suc N) (getD (g .rows) r [])
   row-below = all-below (suc N) (getD (g .rows) r []) (λ c q. chain-cell R (suc N) st g h [] c r iv q .inside)
 
   pub chain-short : length (getD (g .rows) r []) ≤ N
   unfolding cnt
-  chain-short =
-      let l = getD (g .rows) r [] in
-      let a = length-counts (suc N) l row-below in
-      let b = rsum-le (λ x. cnt x l) (inb (suc N)) (suc N) (λ x. omega (arith, iv .once x, sum-at (cnt x) (g .rows) r [] refl)) in
-      omega (arith, inb-sum N (suc N))
+  chain-short = list-short N (getD (g .rows) r []) row-below (λ x. omega (arith, iv .once x, sum-at (cnt x) (g .rows) r [] refl))
 
   -- so a walk of N versions comes to its end
   pub chain-ends : r < R → chain N (st .vers) N (st .heads r) ≡ chained (getD (g .rows) r []) ends

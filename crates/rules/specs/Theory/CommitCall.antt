@@ -36,7 +36,7 @@ module _ {z : Sizes} (m : Mem z) (sh : Shaped m) where
         (record { row-in = omega (arith, sh .rows); base-in = omega (arith, sh .cells); new-in = cell-in (sizeN m) (w .new) (m .cells) (sh .cells) (q .0) }, r .1),
       )
 
-  commit-facts : (t : Slot) (ws : List Write) → Passed (commitTests m t ws) → Tested (headAt m) ws × AllIn m ws
+  pub commit-facts : (t : Slot) (ws : List Write) → Passed (commitTests m t ws) → Tested (headAt m) ws × AllIn m ws
   unfolding commitTests
   commit-facts t [] p = (tt, tt)
   commit-facts t (w ∷ l) p =

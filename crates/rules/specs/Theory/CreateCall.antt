@@ -150,7 +150,7 @@ unfolding fits
 fits-true m r n f =
     rw (le-leb 1 r (f .some-rows), le-leb r _ (f .most-rows), le-leb 1 n (f .some-cells), le-leb n _ (f .most-cells), le-leb metaWords _ (f .metas), le-leb r _ (f .rows), le-leb n _ (f .cells), le-leb _ _ (f .slots))
 
-pub freshHist : Hist
+abbrev pub freshHist : Hist
 freshHist = record { last = λ r. none; who = λ i. 0; view = λ i r. none; own = λ i r. none }
 
 map-take-rep : {A B : Type 0} (f : A → B) (k : ℕ) (a : A) (l : List A) → map f (take k (replicate k a ++ l)) ≡ replicate k (f a)
@@ -234,7 +234,7 @@ module _ {z : Sizes} (rm : Roomy z) (m : Mem z) (N R : ℕ) (f : Fits m R N) whe
       }
 
   pub fresh-good : Good R N k freshHist
-  unfolding freshHist cnt
+  unfolding cnt
   fresh-good = record {
     shaped = fresh-shaped;
     rows = meta-is ROWS (omega arith);

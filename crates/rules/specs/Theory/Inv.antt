@@ -1,4 +1,7 @@
--- The invariant of the theory, over views.
+-- The invariant of the theory, over views. Ghost lists say which cells stand where, and one counting equation says that each cell from 1
+-- on stands once in them all: so no cell is shared, none is lost, and 0 is nowhere. A snapshot is known by what it sees: ids below its xmin
+-- are seen, ids of open slots and ids not yet drawn are not. Of each open slot and row, the first version of the chain that it sees says
+-- what the history says it saw when it began. `pend` are the cells in hand between two steps of a call.
 use mathlib.Core.Bool.{cond, Bool, _&&_, not, true, false}
 use mathlib.Core.List.{List, [], _∷_}
 use mathlib.Core.Logic.{_≢_}
@@ -13,6 +16,7 @@ use Rattle.rules.specs.Slots.{Slot, Write, Rec}
 use Rattle.rules.specs.Visible.{creatorVisible, visible}
 use Rattle.rules.specs.Abort.{news}
 use Rattle.rules.specs.History.{Val, said}
+use Rattle.rules.specs.Reachable.{All}
 use Rattle.rules.specs.Theory.View.{View, emptySlot}
 use Rattle.rules.specs.Theory.Effects.{slotV}
 use Rattle.rules.specs.Theory.Counting.{cnt, cnt-head, cnt-tail, bit, sum}
@@ -126,11 +130,6 @@ Single t f (c ∷ l) = (vis t (f c) ≡ true → (d : ℕ) → cnt d l ≢ 0 →
 abbrev pub Entries : (ℕ → Ver) → ℕ → ℕ → List Write → Type 0
 Entries f R t [] = Unit {0}
 Entries f R t (w ∷ l) = (w .row < R) × (f (w .new) .xmin ≡ t) × (f (w .new) .xmax ≡ 0) × (ownFind f l (w .row) ≡ none) × Entries f R t l
-
--- P of every member
-abbrev pub All : {A : Type 0} → (A → Type 0) → List A → Type 0
-All P [] = Unit {0}
-All P (q ∷ l) = P q × All P l
 
 pub all-map : {A : Type 0} (P Q : A → Type 0) (l : List A) → ((q : A) → P q → Q q) → All P l → All Q l
 all-map P Q [] f a = tt

@@ -14,14 +14,15 @@ use Rattle.rules.specs.Slots.{Slot, Rec, Write}
 use Rattle.rules.specs.Memory.{Mem, headAt, slotAt, sizeR}
 use Rattle.rules.specs.Outcome.{Test, Outcome, refuse, slotTests, each}
 use Rattle.rules.specs.Read.{Sight, blocked, sees, answerAt, readRow}
-use Rattle.rules.specs.Lookup.{Found, stopped, got, listRow, isKey, find, findRow, lookupEnd, rowsToRead, ownRows, lookupAllOut, lookupOut, candidateTests}
+use Rattle.rules.specs.Lookup.{Found, stopped, got, listRow, isKey, findRow, find, lookupEnd, rowsToRead, ownRows, lookupAllOut, lookupOut, candidateTests}
+use Rattle.rules.specs.Reachable.{All}
 use Rattle.rules.specs.Theory.Cases.{byBool}
 use Rattle.rules.specs.Theory.View.{viewOf, get-slots}
 use Rattle.rules.specs.Theory.Effects.{slotV}
-use Rattle.rules.specs.Theory.Inv.{All, Hist}
+use Rattle.rules.specs.Theory.Inv.{Hist}
+use Rattle.rules.specs.Theory.Recording.{Rightly, Noted, noted}
 use Rattle.rules.specs.Theory.Guard.{guardCase, passed-split}
 use Rattle.rules.specs.Theory.Good.{Good, Owner, view-open, owner}
-use Rattle.rules.specs.Theory.Recording.{Rightly, Noted, noted}
 use Rattle.rules.specs.Theory.ReadCall.{recs-good, recs-right}
 
 pub from-below : (R a k : ℕ) → a + k ≤ R → All (λ r. r < R) (from a k)
@@ -38,7 +39,7 @@ module _ {z : Sizes} (R N : ℕ) (m : Mem z) (h : Hist) (gd : Good R N m h) (s i
   abbrev t : Slot
   t = slotV (viewOf m) s
 
-  abbrev Fine : Found → Type 0
+  abbrev pub Fine : Found → Type 0
   Fine (stopped k x) = Unit {0}
   Fine (got recs rows) = Rightly z (viewOf m) (gd .ghost) s (t .recs ++ recs)
 
@@ -51,7 +52,7 @@ module _ {z : Sizes} (R N : ℕ) (m : Mem z) (h : Hist) (gd : Good R N m h) (s i
       (λ e. rw e (byBool (leb room (length rows)) (λ f. rw f tt) (λ f. rw f ok)))
       (λ e. rw e ok)
 
-  row-fine : (r : ℕ) → r < R → (f : Found) → Fine f → Fine (findRow m t key room r f)
+  pub row-fine : (r : ℕ) → r < R → (f : Found) → Fine f → Fine (findRow m t key room r f)
   unfolding findRow
   row-fine r lt (stopped k x) a = tt
   row-fine r lt (got recs rows) a =
@@ -68,10 +69,12 @@ module _ {z : Sizes} (R N : ℕ) (m : Mem z) (h : Hist) (gd : Good R N m h) (s i
   end-good late (stopped k x) a = gd
   end-good late (got l rows) a = guardCase (λ (x : Outcome z Answer ℕ). Good R N (x .after) h) (refuse m) late _ (λ k x. gd) (λ _. recs-good R N m h gd s id o l a)
 
+  pub found-fine : (l : List ℕ) → All (λ r. r < R) l → Fine (find m (slotAt m s) key room l)
+  found-fine l a =
+      subst (λ (u : Slot). Fine (find m u key room l)) (get-slots z (m .slots) s (o .slot)) (find-fine l a (got [] []) (rw (append-nil (t .recs)) (recs-right R N m h gd s id o)))
+
   pub lookup-now : (late : List Test) (l : List ℕ) → All (λ r. r < R) l → Good R N (lookupEnd m s late (find m (slotAt m s) key room l) .after) h
-  lookup-now late l a =
-      let b = find-fine l a (got [] []) (rw (append-nil (t .recs)) (recs-right R N m h gd s id o)) in
-      end-good late _ (subst (λ (u : Slot). Fine (find m u key room l)) (get-slots z (m .slots) s (o .slot)) b)
+  lookup-now late l a = end-good late _ (found-fine l a)
 
 pub all-rows-below : {z : Sizes} (R N : ℕ) (m : Mem z) (h : Hist) → Good R N m h → All (λ r. r < R) (from 0 (sizeR m))
 all-rows-below R N m h gd = from-below R 0 (sizeR m) (omega (arith, gd .rows))

@@ -2,12 +2,14 @@
 use mathlib.Core.Bool.{Bool, not, _&&_, true, false}
 use mathlib.Core.List.{[], List, _∷_}
 use mathlib.Core.Logic.{_≢_}
-use mathlib.Core.Path.{_≡_, refl}
-use Prim.Native.Nat.{ℕ, _≤_, _<_}
+use mathlib.Core.Path.{_≡_, refl, ap}
+use Prim.Native.Nat.{ℕ, _≤_, _<_, zero, suc}
+use native.Mathlib.Nat.{le-of-suc-le-suc}
 use native.Mathlib.Omega.{arith}
 use lib.Dec.{eqb, ltb}
-use lib.ListN.{getD}
-use borrow.Author.Tests.{eqb-false, ltb-true}
+use lib.ListN.{getD, length}
+use borrow.Author.Tests.{eqb-false, ltb-true, ltb-false}
+use Rattle.rules.specs.Theory.Cases.{byBool}
 use Rattle.rules.specs.Theory.View.{View, emptySlot}
 use Rattle.rules.specs.Theory.Effects.{slotV}
 use Rattle.rules.specs.Theory.Counting.{bit, cnt, cnt-same, sum-at, sum-two, cnt-head}
@@ -103,3 +105,13 @@ module _ (R n : ℕ) (st : View) (g : Ghost) (h : Hist) where
       let b = sum-at (inSlot c) (st .slots) i emptySlot refl in
       let once = iv .once c in
       inb-in n c (omega arith)
+
+pub getD-past : (l : List (List ℕ)) (i : ℕ) → length l ≤ i → getD l i [] ≡ []
+getD-past [] i h = refl
+getD-past (x ∷ l) zero h = absurd (omega arith)
+getD-past (x ∷ l) (suc i) h = getD-past l i (le-of-suc-le-suc h)
+
+-- where a cell stands in a row's chain, there is that row
+pub placed-row : (R n : ℕ) (st : View) (g : Ghost) (h : Hist) (pend : List ℕ) (r c : ℕ) → Inv R n st g h pend → cnt c (getD (g .rows) r []) ≢ 0 → r < R
+unfolding cnt
+placed-row R n st g h pend r c iv nz = byBool (ltb r R) (λ e. ltb-true r R e) (λ e. absurd (nz (ap (cnt c) (getD-past (g .rows) r (omega (arith, ltb-false r R e, iv .rowed))))))

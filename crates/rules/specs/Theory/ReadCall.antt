@@ -16,14 +16,14 @@ use Rattle.rules.specs.Theory.Shape.{slots-ok}
 use Rattle.rules.specs.Theory.View.{View, viewOf, get-slots}
 use Rattle.rules.specs.Theory.Effects.{slotV}
 use Rattle.rules.specs.Theory.Bridge.{view-recs}
-use Rattle.rules.specs.Theory.Inv.{Hist}
+use Rattle.rules.specs.Theory.Inv.{Hist, all-map}
 use Rattle.rules.specs.Theory.SlotSteps.{open-in}
 use Rattle.rules.specs.Theory.Reslot.{reslot-inv}
-use Rattle.rules.specs.Theory.Locks.{locks-put}
+use Rattle.rules.specs.Theory.Locks.{locks-put, held-refilled}
+use Rattle.rules.specs.Theory.Recording.{Rightly, Noted, noted}
 use Rattle.rules.specs.Theory.Guard.{guardCase, passed-split}
 use Rattle.rules.specs.Theory.Same.{Same, same-shaped}
 use Rattle.rules.specs.Theory.Good.{Good, Owner, view-open, owner}
-use Rattle.rules.specs.Theory.Recording.{Rightly, Noted, noted}
 
 module _ {z : Sizes} (R N : ℕ) (m : Mem z) (h : Hist) (gd : Good R N m h) (s id : ℕ) (o : Owner m s id) where
   abbrev st : View
@@ -55,7 +55,7 @@ module _ {z : Sizes} (R N : ℕ) (m : Mem z) (h : Hist) (gd : Good R N m h) (s i
         cells = gd .cells;
         ghost = gd .ghost;
         inv = rw vw (reslot-inv R (suc N) st (gd .ghost) h [] [] s (t .writes) (t .recs ++ l) (h .own) iv op (λ x. refl) (q .owns) (λ j r′ ne. refl) (q .entries) (a .sound) (a .single));
-        locks = rw vw (locks-put (suc N) st s (withRecs t l) (st .clock) within (λ _. gd .locks .held s op) (λ c nz cn lk oj am. (oj, am)) (gd .locks));
+        locks = rw vw (locks-put (suc N) st s (withRecs t l) (st .clock) within (λ _. all-map _ _ (t .writes) (held-refilled st t (t .writes) (t .recs ++ l)) (gd .locks .held s op)) (λ c nz cn lk oj am. (oj, am)) (gd .locks));
       }
 
   end-good : (g : Sight) → Noted z st (gd .ghost) s (slotV st s .recs) g → Good R N (readEnd m s g .after) h
@@ -63,11 +63,14 @@ module _ {z : Sizes} (R N : ℕ) (m : Mem z) (h : Hist) (gd : Good R N m h) (s i
   end-good (blocked k x) a = gd
   end-good (sees c l) a = recs-good l a
 
-  read-now : (row : ℕ) → row < sizeR m → Good R N (readEnd m s (readAt m (slotAt m s) (slotAt m s .recs) row) .after) h
-  read-now row lt =
-      end-good _ (subst (λ (t : Slot). Noted z st (gd .ghost) s (slotV st s .recs) (readAt m t (t .recs) row)) (get-slots z (m .slots) s (o .slot))
+  pub noted-at : (row : ℕ) → row < sizeR m → Noted z st (gd .ghost) s (slotV st s .recs) (readAt m (slotAt m s) (slotAt m s .recs) row)
+  noted-at row lt =
+      subst (λ (t : Slot). Noted z st (gd .ghost) s (slotV st s .recs) (readAt m t (t .recs) row)) (get-slots z (m .slots) s (o .slot))
       (subst (λ (k : ℕ). Noted z st (gd .ghost) s (slotV st s .recs) (readRow z k (versionAt (m .cells)) (headAt m row) (slotV st s) (slotV st s .recs) row)) (sym (gd .cells))
-      (noted z R N st (gd .ghost) h s row (gd .inv) (view-open m s id o) (rw (gd .rows) at lt) (slotV st s .recs) recs-right)))
+      (noted z R N st (gd .ghost) h s row (gd .inv) (view-open m s id o) (rw (gd .rows) at lt) (slotV st s .recs) recs-right))
+
+  read-now : (row : ℕ) → row < sizeR m → Good R N (readEnd m s (readAt m (slotAt m s) (slotAt m s .recs) row) .after) h
+  read-now row lt = end-good _ (noted-at row lt)
 
 pub read-good : {z : Sizes} (R N : ℕ) (m : Mem z) (h : Hist) → Good R N m h → (s id row : ℕ) → Good R N (readOut m s id row .after) h
 unfolding readOut

@@ -1,7 +1,7 @@
 -- The records that a read adds are right: their cells stand in their rows' chains and are seen; one record a row; within the limit.
-use mathlib.Core.Bool.{true, false, false≢true}
+use mathlib.Core.Bool.{true, false≢true, false}
 use mathlib.Core.List.{List, _++_, [], _∷_, append-nil}
-use mathlib.Core.Logic.{_≢_, _⊎_, inr, inl, ⊎-elim}
+use mathlib.Core.Logic.{_≢_}
 use mathlib.Core.Option.{Option, none, some}
 use mathlib.Core.Path.{sym, _≡_, refl, _∙_, subst}
 use Prim.Native.Nat.{ℕ, _≤_, suc, _<_}
@@ -11,17 +11,17 @@ use lib.ListN.{getD, length, length-append}
 use borrow.Author.Tests.{eqb-false, leb-false}
 use Rattle.rules.specs.Sizes.{Sizes}
 use Rattle.rules.specs.Slots.{Rec, Slot, Write}
-use Rattle.rules.specs.Chain.{Look, tooLong}
+use Rattle.rules.specs.Chain.{Look}
 use Rattle.rules.specs.Outcome.{isCell}
 use Rattle.rules.specs.Read.{recorded, Sight, blocked, sees, sightOf, own, ownSight, readRow}
+use Rattle.rules.specs.Reachable.{All}
 use Rattle.rules.specs.Theory.Cases.{byEq, or-false, byBool}
 use Rattle.rules.specs.Theory.View.{View}
 use Rattle.rules.specs.Theory.Effects.{slotV}
 use Rattle.rules.specs.Theory.Counting.{cnt, cnt-other}
-use Rattle.rules.specs.Theory.Inv.{All, Apart, Ver, Single, vis, Recorded, Ghost, vers, Hist, Inv, verOf}
-use Rattle.rules.specs.Theory.Places.{chain-cell}
-use Rattle.rules.specs.Theory.Chains.{all-below}
-use Rattle.rules.specs.Theory.Reading.{lookedAt, pickCell, Beyond, pick-cases, look-pick}
+use Rattle.rules.specs.Theory.Inv.{Apart, Ver, Single, vis, Recorded, Ghost, vers, Hist, Inv, verOf}
+use Rattle.rules.specs.Theory.Chains.{row-below}
+use Rattle.rules.specs.Theory.Reading.{Looks, too-far, at-end, at-cell, look-pick}
 
 pub all-append : {A : Type 0} (P : A → Type 0) (l k : List A) → All P l → All P k → All P (l ++ k)
 all-append P [] k a b = b
@@ -70,28 +70,22 @@ module _ (z : Sizes) (R n : ℕ) (st : View) (g : Ghost) (h : Hist) (i r : ℕ) 
   same-recs : Rightly z st g i (rs ++ [])
   same-recs = rw (append-nil rs) ok
 
-  noted-look : (k : Look) → (k ≡ lookedAt (pickCell (slotV st i) (vers st) row)) ⊎ ((k ≡ tooLong) × Beyond (z .walk) (slotV st i) (vers st) row)
-      → Noted z st g i rs (sightOf z n (st .vers) (st .heads r) (slotV st i) rs r k)
-  unfolding sightOf lookedAt verOf
-  noted-look k (inr b) = rw (b .0) tt
-  noted-look k (inl q) = ⊎-elim
-      (λ a. rw (q, a .0) same-recs)
-      (λ b.
-      let c = b .0 in
-      let s = b .2 in
-      rw (q, b .1) (byBool (recorded c rs) (λ y. rw y same-recs)
+  noted-look : (k : Look) → Looks (z .walk) (slotV st i) (vers st) row k → Noted z st g i rs (sightOf z n (st .vers) (st .heads r) (slotV st i) rs r k)
+  unfolding sightOf verOf
+  noted-look _ (too-far b) = tt
+  noted-look _ (at-end le p) = same-recs
+  noted-look _ (at-cell c p s) =
+      byBool (recorded c rs) (λ y. rw y same-recs)
       (λ y. rw y (byBool (leb (z .reads) (length rs)) (λ f. rw f tt)
       (λ f. rw f (record {
         sound = all-append _ rs _ (ok .sound) (record { placed = s .among; minned = refl; seen = s .sees }, tt);
         single = apart-snoc _ rs (ok .single) (row-unrecorded (slotV st i) (vers st) (g .rows) r c ((iv .opens i op) .single r) (s .among) (s .sees) rs (ok .sound) y);
         few = rw (length-append rs _) (omega (arith, leb-false (z .reads) (length rs) f));
-      }))))))
-      (pick-cases (slotV st i) (vers st) row)
+      }))))
 
   noted-own : (o : Option Write) → Noted z st g i rs (ownSight z n (st .vers) (st .heads r) (slotV st i) rs r o)
   unfolding ownSight
-  noted-own none = noted-look _
-      (look-pick n (z .walk) (slotV st i) (st .vers) (st .heads r) row (all-below (suc n) row (λ c q. chain-cell R (suc n) st g h [] c r iv q .inside)) (iv .chain r inR))
+  noted-own none = noted-look _ (look-pick n (z .walk) (slotV st i) (st .vers) (st .heads r) row (row-below R n st g h r iv) (iv .chain r inR))
   noted-own (some w) = byBool (isCell n (w .new)) (λ e. rw e same-recs) (λ e. rw e tt)
 
   pub noted : Noted z st g i rs (readRow z n (st .vers) (st .heads r) (slotV st i) rs r)

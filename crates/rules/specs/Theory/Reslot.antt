@@ -12,11 +12,12 @@ use Rattle.rules.specs.Slots.{Write, Rec, Slot}
 use Rattle.rules.specs.Visible.{creatorVisible}
 use Rattle.rules.specs.Abort.{news}
 use Rattle.rules.specs.History.{Val}
+use Rattle.rules.specs.Reachable.{All}
 use Rattle.rules.specs.Theory.Cases.{byEq}
 use Rattle.rules.specs.Theory.View.{View, emptySlot}
 use Rattle.rules.specs.Theory.Effects.{slotV, putSlot}
 use Rattle.rules.specs.Theory.Counting.{cnt, sum-set}
-use Rattle.rules.specs.Theory.Inv.{Ghost, Hist, Inv, ownFind, vers, Entries, All, Recorded, Apart, vis, Ver, pick, Single, places, inb, inSlot, Snap, Open, all-map}
+use Rattle.rules.specs.Theory.Inv.{Ghost, Hist, Inv, ownFind, vers, Entries, Recorded, Apart, vis, Ver, pick, Single, places, inb, inSlot, Snap, Open, all-map}
 use Rattle.rules.specs.Theory.SlotSteps.{open-in, top-set, open-beside}
 
 abbrev pub reslot : View → ℕ → List Write → List Rec → Slot

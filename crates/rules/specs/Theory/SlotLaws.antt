@@ -204,10 +204,6 @@ slot-recs {z} (q ∷ l) t ok le =
     let k = slot-recs l (addRec z q t) (ok-rec t ok q (omega arith)) (omega arith) in
     (k .0 ∙ rw (slot-rec t ok q (omega arith)) (ap (putRecs (slotOf z t)) (append-snoc (slotOf z t .recs) q l)), k .1)
 
-pub writes-length : {z : Sizes} (t : List ℕ) → SlotOk z t → length (slotOf z t .writes) ≡ getD t (WRITES z) 0
-unfolding slotOf
-writes-length {z} t ok = length-threes write t (WRITES z + 1) (capped t (WRITES z) (z .writes)) ∙ capped-is t (WRITES z) (z .writes) (ok .writes)
-
 pub recs-length : {z : Sizes} (t : List ℕ) → SlotOk z t → length (slotOf z t .recs) ≡ getD t (READS z) 0
 unfolding slotOf
 recs-length {z} t ok = length-threes rec t (READS z + 1) (capped t (READS z) (z .reads)) ∙ capped-is t (READS z) (z .reads) (ok .reads)

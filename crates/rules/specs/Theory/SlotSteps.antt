@@ -1,4 +1,4 @@
--- A slot changes: begin, close, a new entry.
+-- A slot changes: it is closed, its cells loose then; or a transaction begins in it, and its snapshot sees what is committed.
 use mathlib.Core.Bool.{false, true, true≢false}
 use mathlib.Core.List.{List, [], _∷_}
 use mathlib.Core.Logic.{_≢_}

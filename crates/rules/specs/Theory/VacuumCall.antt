@@ -7,13 +7,12 @@ use Prim.Native.Nat.{ℕ, _≤_, zero, suc, min, _<_}
 use native.Mathlib.Nat.{le-of-suc-le-suc}
 use native.Mathlib.Omega.{arith}
 use lib.Dec.{eqb, ltb}
-use lib.ListN.{getD, take}
+use lib.ListN.{getD, take, set}
 use borrow.Author.Tests.{ne-eqb, eqb-false, not-true, ltb-true, leb-false}
 use Rattle.rules.specs.declared.Answer.{Answer}
-use Rattle.rules.specs.declared.Version.{Version}
 use Rattle.rules.specs.Sizes.{Sizes}
 use Rattle.rules.specs.Lists.{least, fold, nonzero, keep}
-use Rattle.rules.specs.Versions.{at, versionAt}
+use Rattle.rules.specs.Versions.{at, emptyVersion, versionAt}
 use Rattle.rules.specs.Slots.{Slot, slotOf}
 use Rattle.rules.specs.Memory.{Mem, clock, sizeN, headAt, withCells, free, sizeR}
 use Rattle.rules.specs.Visible.{creatorVisible}
@@ -26,14 +25,15 @@ use Rattle.rules.specs.Theory.Cases.{byBool, and-true, and-false, byEq}
 use Rattle.rules.specs.Theory.CellLaws.{HasCell}
 use Rattle.rules.specs.Theory.Shape.{SlotsOk}
 use Rattle.rules.specs.Theory.View.{emptySlot, viewOf, slotsOf, View}
-use Rattle.rules.specs.Theory.Effects.{lowsV, slotV, withVers, relinkV, giveAllV}
+use Rattle.rules.specs.Theory.Effects.{lowsV, slotV, giveAllV, giveV, withVers, relinkV}
 use Rattle.rules.specs.Theory.Bridge.{lows-are, AllCells, relink-vers, view-give-all, all-cells}
-use Rattle.rules.specs.Theory.Counting.{cnt, cnt-head, cnt-tail, cnt-same}
-use Rattle.rules.specs.Theory.Inv.{Ghost, Hist, Inv, vers, vis, verOf}
+use Rattle.rules.specs.Theory.Counting.{cnt, cnt-tail, cnt-head, cnt-same}
+use Rattle.rules.specs.Theory.Inv.{Ghost, Hist, Inv, vers, vis, verOf, Spelled, nexts, spelled-frame}
 use Rattle.rules.specs.Theory.Places.{chain-cell, head-among}
+use Rattle.rules.specs.Theory.Publish.{part-off, ofNext}
 use Rattle.rules.specs.Theory.Cells.{give-all-inv}
 use Rattle.rules.specs.Theory.VacuumView.{cnt-keep, relink-part, relink-inv}
-use Rattle.rules.specs.Theory.Locks.{Locks, locks-give-all, held-off, locks-same}
+use Rattle.rules.specs.Theory.Locks.{Locks, partOf, locks-give-all, held-off, locks-same, Part}
 use Rattle.rules.specs.Theory.Chains.{chain-ends}
 use Rattle.rules.specs.Theory.Guard.{guardCase, passed-split}
 use Rattle.rules.specs.Theory.Same.{same-relink, Same, same-then, same-give-all, same-shaped, slots-give-all}
@@ -60,6 +60,15 @@ dead-unseen R n st g h hz c iv un e i op =
     let lt : x < hz = ltb-true x hz (and-true (ltb x hz) _ (a .1) .0) in
     let u = un i op in
     rw ((iv .opens i op) .snap .below x nz (omega arith), ne-eqb x 0 nz) (and-false (creatorVisible (slotV st i) (st .vers c .xmin .0)))
+
+-- a chain without the cells given back is spelled as before
+give-spelled : (l : List ℕ) (st : View) (r : ℕ) (list : List ℕ) → ((c : ℕ) → cnt c list ≢ 0 → cnt c l ≡ 0) → Spelled (nexts st) (st .heads r) list → Spelled (nexts (giveAllV l st)) (giveAllV l st .heads r) list
+unfolding fold
+give-spelled [] st r list off s = s
+give-spelled (c ∷ l) st r list off s =
+    give-spelled l (giveV c st) r list (λ d nz. cnt-tail d c l (off d nz))
+    (spelled-frame (nexts st) (nexts (giveV c st)) c (st .heads r) list (part-off ofNext (st .vers) c emptyVersion)
+    (byEq (cnt c list) 0 (λ e. e) (λ nz. absurd (cnt-head c c l (off c nz) refl))) s)
 
 cells-of : (cs : List (List ℕ)) (l : List ℕ) → ((c : ℕ) → cnt c l ≢ 0 → HasCell cs c) → AllCells cs l
 cells-of cs [] f = tt
@@ -123,10 +132,18 @@ module _ {z : Sizes} (R N : ℕ) (m : Mem z) (h : Hist) (gd : Good R N m h) (row
 
     swept-locks : Locks (suc N) (giveAllV (keep p l) relinked)
     swept-locks =
-        let fl = relink-part (λ (v : Version). v .locked) (λ v n. refl) alive (st .vers) in
-        let ow = relink-part (λ (v : Version). v .owner .0) (λ v n. refl) alive (st .vers) in
+        let same = relink-part partOf (λ v n. refl) alive (st .vers) in
         locks-give-all (suc N) (keep p l) relinked (held-off R (suc N) st (gd .ghost) h (gd .inv) (gd .locks) (keep p l) head-stays)
-        (locks-same (suc N) st (relinkV alive (st .vers)) (λ c. ap (λ (f : ℕ → ℕ). f c) fl) (λ c. ap (λ (f : ℕ → ℕ). f c) ow) (gd .locks))
+        (locks-same (suc N) st (relinkV alive (st .vers)) (λ c. ap (λ (f : ℕ → Part). f c) same) (gd .locks))
+
+    -- the dead are out of the chains, what is left is spelled as a part of what was
+    pub swept-rows : (r : ℕ) → r < R
+        → Spelled (nexts (viewOf (fold giveBack (keep p l) linked))) (viewOf (fold giveBack (keep p l) linked) .heads r) (getD (set (gd .ghost .rows) row alive) r [])
+    swept-rows r lt =
+        let iv₁ = relink-inv R (suc N) st (gd .ghost) h row hd l p (gd .inv) inR here (λ c d. dead-unseen R (suc N) st (gd .ghost) h hz c (gd .inv) un d) in
+        let rows = getD (set (gd .ghost .rows) row alive) r [] in
+        subst (λ (v : View). Spelled (nexts v) (v .heads r) rows) (sym swept-view)
+        (give-spelled (keep p l) relinked r rows (λ c nz. chain-cell R (suc N) relinked _ h (keep p l) c r iv₁ nz .unpend) (iv₁ .chain r lt))
 
     swept-good : (room : ℕ) → Good R N (swept m hz room hd l .after) h
     unfolding swept

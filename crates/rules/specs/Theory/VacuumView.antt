@@ -13,11 +13,12 @@ use Rattle.rules.specs.Lists.{keep}
 use Rattle.rules.specs.Versions.{at, withNext}
 use Rattle.rules.specs.Slots.{Slot, Rec}
 use Rattle.rules.specs.History.{Val}
+use Rattle.rules.specs.Reachable.{All}
 use Rattle.rules.specs.Theory.Cases.{byBool, byEq}
 use Rattle.rules.specs.Theory.View.{upd, upd-other, View}
 use Rattle.rules.specs.Theory.Effects.{relinkV, slotV, withVers}
 use Rattle.rules.specs.Theory.Counting.{cnt, cnt-other, cnt-same, cnt-head, cnt-tail, sum-set}
-use Rattle.rules.specs.Theory.Inv.{pick, Ver, vis, Single, Spelled, nexts, verOf, Ghost, Hist, Inv, vers, places, inb, Top, Recorded, ownFind, Entries, All, all-map}
+use Rattle.rules.specs.Theory.Inv.{pick, Ver, vis, Single, Spelled, nexts, verOf, Ghost, Hist, Inv, vers, places, inb, Top, Recorded, ownFind, Entries, all-map}
 use Rattle.rules.specs.Theory.Places.{chain-cell}
 use Rattle.rules.specs.Theory.Publish.{part-same, nextsF, part-on, ofNext, versF}
 

@@ -1,5 +1,5 @@
 -- Write keeps what holds; the history notes the slot, the row and the value.
-use mathlib.Core.Bool.{false, not}
+use mathlib.Core.Bool.{false, true, not}
 use mathlib.Core.List.{[], _∷_, _++_}
 use mathlib.Core.Logic.{_≢_}
 use mathlib.Core.Option.{Option, none, some}
@@ -16,6 +16,7 @@ use Rattle.rules.specs.Lists.{first}
 use Rattle.rules.specs.Versions.{lockedByOther, at, versionAt, unlocked, withValue}
 use Rattle.rules.specs.Slots.{Write, Slot}
 use Rattle.rules.specs.Memory.{Mem, sizeR, slotAt, headAt, sizeN, wordsAt, free}
+use Rattle.rules.specs.Visible.{visible}
 use Rattle.rules.specs.Outcome.{Outcome, refuse, test, isCell, slotTests, rowTest}
 use Rattle.rules.specs.Read.{own}
 use Rattle.rules.specs.Write.{prepared, writeNow, headTests, replaced, writeOut}
@@ -29,7 +30,7 @@ use Rattle.rules.specs.Theory.SlotSteps.{ids-differ}
 use Rattle.rules.specs.Theory.Publish.{part-same}
 use Rattle.rules.specs.Theory.Writes.{write-inv}
 use Rattle.rules.specs.Theory.Revalue.{At, OwnAt, revalue-inv, at-is}
-use Rattle.rules.specs.Theory.Locks.{locks-write, Locks, locks-same}
+use Rattle.rules.specs.Theory.Locks.{locks-write, Locks, locks-same, partOf}
 use Rattle.rules.specs.Theory.Reading.{Own, own-is}
 use Rattle.rules.specs.Theory.Guard.{guardCase, passed-split}
 use Rattle.rules.specs.Theory.Same.{same-prepared, shaped-prepared, Same, same-shaped}
@@ -45,9 +46,9 @@ module _ {z : Sizes} (R N : ℕ) (m : Mem z) (h : Hist) (gd : Good R N m h) (s i
 
   -- ---- a new entry
   prepared-good : (o : Owner m s id) → row < sizeR m → own (slotAt m s .writes) row ≡ none → headAt m row ≤ sizeN m
-      → (headAt m row ≢ 0 → lockedByOther (versionAt (m .cells) (headAt m row)) id ≡ false)
+      → (headAt m row ≢ 0 → lockedByOther (versionAt (m .cells) (headAt m row)) id ≡ false) → (headAt m row ≢ 0 → visible (slotAt m s) (versionAt (m .cells) (headAt m row)) ≡ true)
       → getD (wordsAt m s) (WRITES z) 0 < z .writes → free m ≢ 0 → free m ≤ sizeN m → Good R N (prepared m s id row v) (histWrite h s id row v)
-  prepared-good o inR noOwn hd unlocked few fz fn =
+  prepared-good o inR noOwn hd unlocked seen few fz fn =
       let sh = gd .shaped in
       let iv = gd .inv in
       let g = gd .ghost in
@@ -60,7 +61,7 @@ module _ {z : Sizes} (R N : ℕ) (m : Mem z) (h : Hist) (gd : Good R N m h) (s i
       let nw : own (slotV st s .writes) row ≡ none = rw e noOwn in
       let first = subst (Own (vers st) (slotV st s .writes) row) nw (own-is (vers st) row R (slotV st s .id) (slotV st s .writes) ((iv .opens s op) .entries)) in
       let k = write-inv R (suc N) st g h s row v iv op lt first fz in
-      let lk = locks-write R (suc N) st g h s row v iv (gd .locks) op lt fz (λ nz l. lock-mine (st .vers (st .heads row)) (unlocked nz) l ∙ sym sid) (ids-differ R (suc N) st g h [] s iv op) in
+      let lk = locks-write R (suc N) st g h s row v iv (gd .locks) op lt fz (λ nz l. lock-mine (st .vers (st .heads row)) (unlocked nz) l ∙ sym sid) (λ nz. subst (λ (t : Slot). visible t (st .vers (st .heads row)) ≡ true) (sym e) (seen nz)) (ids-differ R (suc N) st g h [] s iv op) in
       let same = same-prepared m s id row v in
       let vw = view-prepared m s id row v sh (o .slot) few fr (omega (arith, sh .cells)) in
       record {
@@ -76,7 +77,7 @@ module _ {z : Sizes} (R N : ℕ) (m : Mem z) (h : Hist) (gd : Good R N m h) (s i
   unfolding writeNow headTests
   write-new-good o inR noOwn = guardCase Kept (refuse m) _ _ (λ k x. gd)
       (λ p.
-      prepared-good o inR noOwn (ltb-false _ _ (p .0)) (λ nz. rw (ne-eqb (headAt m row) 0 nz) at (p .1 .0)) (leb-false _ _ (p .1 .1 .1 .0)) (eqb-false _ _ (p .1 .1 .1 .1 .0))
+      prepared-good o inR noOwn (ltb-false _ _ (p .0)) (λ nz. rw (ne-eqb (headAt m row) 0 nz) at (p .1 .0)) (λ nz. not-false _ (rw (ne-eqb (headAt m row) 0 nz) at (p .1 .1 .0))) (leb-false _ _ (p .1 .1 .1 .0)) (eqb-false _ _ (p .1 .1 .1 .1 .0))
       (ltb-false _ _ (p .1 .1 .1 .1 .1 .0)))
 
   -- ---- the own entry's value replaced
@@ -94,7 +95,7 @@ module _ {z : Sizes} (R N : ℕ) (m : Mem z) (h : Hist) (gd : Good R N m h) (s i
         ghost = gd .ghost;
         inv = rw (view-replaced m c v k) (subst (λ (i : ℕ). Inv R (suc N) (withVers st f) (gd .ghost) (histWrite h s i row v) []) sid (revalue-inv R (suc N) st (gd .ghost) h s row v (gd .inv) (view-open m s id o) c a));
         locks = rw (view-replaced m c v k)
-            (locks-same (suc N) st f (part-same (λ (x : Version). x .locked) (st .vers) c (withValue (st .vers c) v) refl) (part-same (λ (x : Version). x .owner .0) (st .vers) c (withValue (st .vers c) v) refl) (gd .locks));
+            (locks-same (suc N) st f (part-same partOf (st .vers) c (withValue (st .vers c) v) refl) (gd .locks));
       }
 
   now-good : Owner m s id → row < sizeR m → (o : Option Write) → own (slotAt m s .writes) row ≡ o → At (vers (viewOf m)) (slotV (viewOf m) s .writes) row o → Kept (writeNow m s id row v o)

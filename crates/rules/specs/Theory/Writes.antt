@@ -1,4 +1,4 @@
--- Write: a cell is handed out and entered-hist, or the own entry's value is replaced.
+-- A write that adds an entry: the head is locked, the free list's first cell is handed out, and entered into the write set.
 use mathlib.Core.List.{List, [], _∷_, _++_}
 use mathlib.Core.Logic.{_≢_}
 use mathlib.Core.Option.{none, some, Option}
