@@ -23,9 +23,9 @@ use Rattle.rules.specs.Verdicts.{verdict, andThen, verdict-append, verdict-fail
 abbrev pub broken : {z : Sizes} → Mem z → Bool
 broken m = not (fits m (sizeR m) (sizeN m)) || eqb (clock m) 0
 
--- 5: a slot's words, and the presented id
-abbrev pub anothers : List ℕ → ℕ → Bool
-anothers t id = eqb id 0 || not (eqb id (getD t ID 0))
+-- 5: the presented id, and the id found
+abbrev pub anothers : ℕ → ℕ → Bool
+anothers id found = eqb id 0 || not (eqb id found)
 
 -- 15: a count above its limit
 abbrev pub overfull : Sizes → List ℕ → Bool
@@ -34,7 +34,7 @@ overfull z t = ltb (z .slots) (getD t ACTIVE 0) || (ltb (z .writes) (getD t (WRI
 -- the tests of one slot's words, for the presented id
 unfoldable pub ownerTests : Sizes → List ℕ → ℕ → List Test
 ownerTests z t id =
-    test (anothers t id) notOwner (getD t ID 0)
+    test (anothers id (getD t ID 0)) notOwner (getD t ID 0)
     ∷ test (overfull z t) damaged 0
     ∷ []
 
@@ -121,7 +121,7 @@ pub record OwnerFine (z : Sizes) (t : List ℕ) (id : ℕ) : Type 0 where
 pub owner-fine : (z : Sizes) (t : List ℕ) (id : ℕ) → verdict (ownerTests z t id) ≡ Fine → OwnerFine z t id
 unfolding ownerTests verdict
 owner-fine z t id h =
-    byBool (anothers t id)
+    byBool (anothers id (getD t ID 0))
     (λ e. absurd (let g = rw e at h in let z : _≡_ {A = ℕ} 0 1 = cc in omega arith))
     (λ e.
     let g = rw e at h in

@@ -130,14 +130,14 @@ pub fn check_store(
     Verdict::Fine
 }
 
-// An empty slot's id is 0, so 0 is no one's.
-fn is_anothers(slot: &[u64; WIDTH], id: TxId) -> bool
-    ensures { λ b. ⌜ b ≡ anothers (now (slot .entry)) (id .0) ⌝ }
+// The presented id is not the slot's. An empty slot's id is 0, so 0 is no one's.
+fn is_anothers(asked: u64, found: u64) -> bool
+    ensures { λ b. ⌜ b ≡ anothers asked found ⌝ }
 {
-    if id.0 == 0 {
+    if asked == 0 {
         return true;
     }
-    id.0 != slot[ID]
+    asked != found
 }
 
 // One of the three counts is above its limit.
@@ -157,10 +157,12 @@ fn is_overfull(slot: &[u64; WIDTH]) -> bool
 fn check_owner(slot: &[u64; WIDTH], id: TxId) -> Verdict
     ensures { λ v. ⌜ v ≡ verdict (ownerTests base (now (slot .entry)) (id .0)) ⌝ }
 {
-    if is_anothers(slot, id) {
+    let asked = id.0;
+    let found = slot[ID];
+    if is_anothers(asked, found) {
         return Verdict::Refused {
             number: NOT_OWNER,
-            value: slot[ID],
+            value: found,
         };
     }
     if is_overfull(slot) {

@@ -8,7 +8,7 @@ use Rattle.gate.proofs.check_owner.Tie as tie
 
 returns : tie.Need-returns
 unfolding ownerTests verdict
-returns c = rw (sym (c .before .before .is-anothers .ensures) ∙ c .before .if1 .taken)
+returns c = rw (sym (c .before .is-anothers .ensures) ∙ c .if1 .taken)
 
 returns-2 : tie.Need-returns-2
 unfolding ownerTests verdict
@@ -22,8 +22,8 @@ pub check-owner-spec : {M : Type 1} → statement M
 check-owner-spec =
     tie.close
     (tie.spec
-    (λ c κs. search needs)
     (λ c. search needs)
+    (λ c κs. search needs)
     returns
     (λ c κs. search needs)
     returns-2
