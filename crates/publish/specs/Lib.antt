@@ -1,1 +1,2 @@
 pub mod PublishLaws
+pub mod Stores

@@ -2,10 +2,9 @@
 -- memory.
 use Prim.Native.Nat.{ℕ, _+_, _-_, _<_, _≤_}
 use mathlib.Core.List.{List, [], _∷_}
-use mathlib.Core.Path.{_≡_, refl, sym, ap, _∙_, subst}
-use native.Mathlib.Omega.{arith}
+use mathlib.Core.Path.{_≡_, refl, sym, ap, _∙_}
 use lib.ListN.{length, getD}
-use Rattle.rules.specs.Sizes.{Sizes, base}
+use Rattle.rules.specs.Sizes.{base}
 use Rattle.rules.specs.Lists.{fold}
 use Rattle.rules.specs.Slots.{Write, write, threes}
 use Rattle.rules.specs.Memory.{Mem, mem}

@@ -1,5 +1,5 @@
 // The changes of a commit, after every test. Each write is three stores, and what they store is in the slot and the id: no store decides
-// what a later one writes, and the whole sequence may be made again.
+// what a later one writes. Cut anywhere and made again from the start, the sequence ends the same (specs/Stores.antt).
 use arena::put_version;
 use arena::version_at;
 use rules::CELL_WORDS;
@@ -33,7 +33,9 @@ fn mark_base(cells: &mut [[u64; CELL_WORDS]], base: Cell, id: TxId)
         return;
     }
     let old = version_at(cells, base);
-    put_version(cells, base, old.with_xmax(id).unlocked());
+    let marked = old.with_xmax(id);
+    let freed = marked.unlocked();
+    put_version(cells, base, freed);
 }
 
 // One write made public: the base marked, the new version linked to it, the head moved.

@@ -1,9 +1,8 @@
 -- A commit's tests as a whole: records, then bases, then new cells. And what a fine judgement gives the changes: every number of the write
 -- set that they use is one of a row or a cell that is there.
 use Prim.Native.Nat.{ℕ, _+_, _<_, _≤_, min}
-use mathlib.Core.Bool.{true, false}
 use mathlib.Core.List.{List, [], _∷_, _++_}
-use mathlib.Core.Path.{_≡_, refl, sym, ap, _∙_}
+use mathlib.Core.Path.{_≡_, refl, ap, _∙_}
 use mathlib.Core.Logic.{_≢_}
 use native.Mathlib.Omega.{arith}
 use lib.ListN.{length, getD}
@@ -12,7 +11,7 @@ use Rattle.rules.specs.declared.Verdict.{Verdict}
 use Rattle.rules.specs.declared.Verdict.the-variants.{Fine, Refused}
 use Rattle.rules.specs.Sizes.{Sizes, base, WRITES}
 use Rattle.rules.specs.Slots.{Slot, Write, write, threes, slotOf}
-use Rattle.rules.specs.Memory.{Mem, sizeR, sizeN}
+use Rattle.rules.specs.Memory.{Mem, mem, sizeR, sizeN}
 use Rattle.rules.specs.Outcome.{Test, each}
 use Rattle.rules.specs.Verdicts.{verdict, andThen, verdict-append}
 use Rattle.rules.specs.WordLaws.{threes-step, threes-done}
@@ -21,6 +20,7 @@ use Rattle.rules.specs.Theory.Bridge.{AllIn}
 use Rattle.rules.specs.Theory.Cases.{byBool}
 use Rattle.rules.specs.Theory.Good.{cell-in}
 use Rattle.rules.specs.Theory.Guard.{Passed, passed-split}
+use Rattle.validate.specs.TestLaws.{lent}
 
 module _ {z : Sizes} (m : Mem z) (t : Slot) where
   -- the three judgements, one after the other
@@ -44,6 +44,12 @@ module _ {z : Sizes} (m : Mem z) (t : Slot) where
   pub judge-some : (u : List ℕ) → getD u (WRITES base) 0 ≢ 0 → verdict (commitTests m t (slotOf base u .writes)) ≡ judged (slotOf base u .writes)
   unfolding slotOf
   judge-some u e = commit-threes u (WRITES base + 1) (min (getD u (WRITES base) 0) (base .writes)) (omega arith)
+
+-- the tests look at no slot but their own: a whole memory is judged as its three arenas are
+pub commit-whole : (a r : List ℕ) (c s : List (List ℕ)) (t : Slot) (ws : List Write) → commitTests {z = base} (mem a r c s) t ws ≡ commitTests (lent a r c) t ws
+unfolding commitTests
+commit-whole a r c s t [] = refl
+commit-whole a r c s t (w ∷ l) = refl
 
 -- a fine verdict: no test fails
 pub fine-passed : (l : List Test) → verdict l ≡ Fine → Passed l

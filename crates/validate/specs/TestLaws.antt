@@ -1,21 +1,19 @@
 -- The tests of a commit, member by member: what a loop over a slot's list knows where it is refused, goes on and ends.
-use Prim.Native.Nat.{ℕ, _+_, _-_, _<_, _≤_, min}
-use mathlib.Core.Bool.{Bool, true, false, not, _&&_, _||_}
-use mathlib.Core.List.{List, [], _∷_, _++_}
-use mathlib.Core.Path.{_≡_, refl, sym, ap, _∙_}
+use Prim.Native.Nat.{ℕ, _+_, _-_, _<_, _≤_}
+use mathlib.Core.Bool.{true, false, not}
+use mathlib.Core.List.{List, [], _∷_}
+use mathlib.Core.Path.{_≡_, sym, ap, _∙_}
 use mathlib.Core.Logic.{_≢_}
-use native.Mathlib.Omega.{arith}
 use lib.ListN.{getD}
 use borrow.Author.Tests.{eq-eqb, ne-eqb, le-leb, lt-leb}
 use Rattle.rules.specs.declared.Verdict.{Verdict}
 use Rattle.rules.specs.declared.Verdict.the-variants.{Fine, Refused}
-use Rattle.rules.specs.Sizes.{Sizes, base}
-use Rattle.rules.specs.Slots.{Slot, Write, Rec, write, threes}
+use Rattle.rules.specs.Sizes.{base}
+use Rattle.rules.specs.Slots.{threes}
 use Rattle.rules.specs.Memory.{Mem, mem}
 use Rattle.rules.specs.Outcome.{Test, each, isCell}
-use Rattle.rules.specs.Verdicts.{verdict, andThen, verdict-append, verdict-none, verdict-each}
+use Rattle.rules.specs.Verdicts.{verdict, andThen, verdict-none, verdict-each}
 use Rattle.rules.specs.WordLaws.{threes-step, threes-done}
-use Rattle.rules.specs.Commit.{recordTests, baseTests, newTests, commitTests}
 
 -- the arenas that a commit's tests look at; they look at no other slot, so that a whole memory is tested alike
 abbrev pub lent : List ℕ → List ℕ → List (List ℕ) → Mem base

@@ -82,7 +82,8 @@ fn check_record(
     cell: Cell,
     xmin: TxId,
 ) -> Verdict
-    ensures { λ r. ⌜ r ≡ verdict (recordTests (sized 0 n [] (now (cells .entry))) (slotOf base (now (slot .entry))) (rec row (cell .0) (xmin .0))) ⌝ }
+    ensures { λ r. ⌜ r ≡ verdict
+        (recordTests (sized 0 n [] (now (cells .entry))) (slotOf base (now (slot .entry))) (rec row (cell .0) (xmin .0))) ⌝ }
 {
     let c = cell.0;
     if c == 0 {
@@ -108,7 +109,9 @@ fn check_record(
 
 // Every read record, in order.
 pub fn check_records(meta: &[u64], cells: &[[u64; CELL_WORDS]], slot: &[u64; WIDTH]) -> Verdict
-    ensures { λ r. ⌜ r ≡ verdict (each (recordTests (lent (now (meta .entry)) [] (now (cells .entry))) (slotOf base (now (slot .entry)))) (slotOf base (now (slot .entry)) .recs)) ⌝ }
+    ensures { λ r. ⌜ r ≡ verdict
+        (each (recordTests (lent (now (meta .entry)) [] (now (cells .entry))) (slotOf base (now (slot .entry))))
+        (slotOf base (now (slot .entry)) .recs)) ⌝ }
 {
     let n = word_at(meta, CELLS);
     let mut left = at_most(slot[READS], MOST_READS as u64);
@@ -181,7 +184,9 @@ pub fn check_bases(
     cells: &[[u64; CELL_WORDS]],
     slot: &[u64; WIDTH],
 ) -> Verdict
-    ensures { λ r. ⌜ r ≡ verdict (each (baseTests (lent (now (meta .entry)) (now (rows .entry)) (now (cells .entry)))) (slotOf base (now (slot .entry)) .writes)) ⌝ }
+    ensures { λ r. ⌜ r ≡ verdict
+        (each (baseTests (lent (now (meta .entry)) (now (rows .entry)) (now (cells .entry))))
+        (slotOf base (now (slot .entry)) .writes)) ⌝ }
 {
     let r = word_at(meta, ROWS);
     let n = word_at(meta, CELLS);
@@ -242,7 +247,9 @@ pub fn check_commit(
     cells: &[[u64; CELL_WORDS]],
     slot: &[u64; WIDTH],
 ) -> Verdict
-    ensures { λ r. ⌜ r ≡ verdict (commitTests (lent (now (meta .entry)) (now (rows .entry)) (now (cells .entry))) (slotOf base (now (slot .entry))) (slotOf base (now (slot .entry)) .writes)) ⌝ }
+    ensures { λ r. ⌜ r ≡ verdict
+        (commitTests (lent (now (meta .entry)) (now (rows .entry)) (now (cells .entry)))
+        (slotOf base (now (slot .entry))) (slotOf base (now (slot .entry)) .writes)) ⌝ }
 {
     if slot[WRITES] == 0 {
         return Verdict::Fine;

@@ -11,7 +11,7 @@ returns c = rw (eq-eqb _ _ (c .if1 .taken))
 
 returns-2 : tie.Need-returns-2
 unfolding markBase
-returns-2 c = simp (ne-eqb _ _ (c .before .before .before .before .before .before .before .if1 .left), c .before .put-version .ensures, c .before .before .unlocked .ensures, c .before .before .before .with-xmax .ensures, c .before .before .before .before .before .version-at .ensures)
+returns-2 c = simp (ne-eqb _ _ (c .before .before .before .before .before .before .before .if1 .left), c .before .put-version .ensures, c .before .before .before .unlocked .ensures, c .before .before .before .before .with-xmax .ensures, c .before .before .before .before .before .version-at .ensures)
 
 pub mark-base-spec : {M : Type 1} → statement M
 mark-base-spec =
