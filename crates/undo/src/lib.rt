@@ -1,0 +1,134 @@
+// Abort: its tests, then its changes in two passes. Every base of this id is unlocked before the first cell is given back.
+use arena::give_back;
+use arena::put_version;
+use arena::version_at;
+use rules::CELL_WORDS;
+use rules::CELLS;
+use rules::Cell;
+use rules::MOST_WRITES;
+use rules::TxId;
+use rules::Verdict;
+use rules::WIDTH;
+use rules::WRITES;
+ghost use mathlib.Core.Path.{_≡_};
+ghost use mathlib.Core.List.{[], _∷_};
+ghost use Prim.Native.Nat.{min, _≤_};
+ghost use lib.ListN.{length, getD};
+ghost use Rattle.rules.specs.Sizes.{base, metaWords};
+ghost use Rattle.rules.specs.Sizes as words;
+ghost use Rattle.rules.specs.Lists.{fold};
+ghost use Rattle.rules.specs.Slots.{slotOf, write};
+ghost use Rattle.rules.specs.Outcome.{each};
+ghost use Rattle.rules.specs.Verdicts.{verdict};
+ghost use Rattle.rules.specs.Abort.{unlockBase, news, giveBack, abortTests};
+ghost use Rattle.rules.specs.Theory.Bridge.{BasesIn, AllCells};
+ghost use Rattle.undo.specs.UndoLaws.{lent};
+
+// Paper 01's number for damage, the one refusal that an abort can come to after its slot.
+const DAMAGED: u64 = 15;
+
+// A count above its limit reads as the limit.
+fn at_most(x: u64, most: u64) -> u64
+    ensures { λ r. ⌜ r ≡ min x most ⌝ }
+{
+    if x < most { x } else { most }
+}
+
+// The store's N; 0 where the arena is too short to say it.
+fn cell_count(meta: &[u64]) -> u64
+    ensures { λ r. ⌜ r ≡ getD (now (meta .entry)) words.CELLS 0 ⌝ }
+{
+    if meta.len() <= CELLS {
+        return 0;
+    }
+    meta[CELLS]
+}
+
+// One write's base and new cell, in a store of n cells.
+fn check_entry(n: u64, base: Cell, new: Cell) -> Verdict
+    ensures { λ r. ⌜ r ≡ verdict (abortTests (lent (0 ∷ n ∷ []) []) (write 0 (base .0) (new .0))) ⌝ }
+{
+    if n < base.0 {
+        return Verdict::Refused {
+            number: DAMAGED,
+            value: 0,
+        };
+    }
+    if new.0 == 0 {
+        return Verdict::Refused {
+            number: DAMAGED,
+            value: 0,
+        };
+    }
+    if n < new.0 {
+        return Verdict::Refused {
+            number: DAMAGED,
+            value: 0,
+        };
+    }
+    Verdict::Fine
+}
+
+// All that an abort tests after its slot. Nothing is asked of the lent length.
+pub fn check_abort(meta: &[u64], slot: &[u64; WIDTH]) -> Verdict
+    ensures { λ r. ⌜ r ≡ verdict (each (abortTests (lent (now (meta .entry)) [])) (slotOf base (now (slot .entry)) .writes)) ⌝ }
+{
+    let n = cell_count(meta);
+    let mut left = at_most(slot[WRITES], MOST_WRITES as u64);
+    let mut a = WRITES + 1;
+    while left > 0 {
+        let found = check_entry(n, Cell(slot[a + 1]), Cell(slot[a + 2]));
+        let Verdict::Fine = found else {
+            return found;
+        };
+        a += 3;
+        left -= 1;
+    }
+    Verdict::Fine
+}
+
+// The base of one write, unlocked where its owner is this id. A base of 0 is no cell.
+fn unlock_base(cells: &mut [[u64; CELL_WORDS]], base: Cell, id: TxId)
+    requires { ⌜ base .0 ≤ length (now cells) ⌝ }
+    ensures { λ _. ⌜ now (cells .exit) ≡ unlockBase (id .0) (write 0 (base .0) 0) (now (cells .entry)) ⌝ }
+{
+    if base.0 == 0 {
+        return;
+    }
+    let old = version_at(cells, base);
+    let owner = old.owner;
+    if owner.0 != id.0 {
+        return;
+    }
+    put_version(cells, base, old.unlocked());
+}
+
+// Every base of this id unlocked, in write order.
+pub fn unlock_all(cells: &mut [[u64; CELL_WORDS]], slot: &[u64; WIDTH], id: TxId)
+    requires { ⌜ BasesIn (now cells) (slotOf base (now slot) .writes) ⌝ }
+    ensures { λ _. ⌜ now (cells .exit) ≡ fold (unlockBase (id .0)) (slotOf base (now (slot .entry)) .writes) (now (cells .entry)) ⌝ }
+{
+    let mut left = at_most(slot[WRITES], MOST_WRITES as u64);
+    let mut a = WRITES + 1;
+    while left > 0 {
+        unlock_base(cells, Cell(slot[a + 1]), id);
+        a += 3;
+        left -= 1;
+    }
+}
+
+// Every new cell given back, in write order: the last is the next handed out.
+pub fn give_all(meta: &mut [u64], cells: &mut [[u64; CELL_WORDS]], slot: &[u64; WIDTH])
+    requires { ⌜ metaWords ≤ length (now meta) ⌝ }
+    requires { ⌜ AllCells (now cells) (news (slotOf base (now slot) .writes)) ⌝ }
+    ensures { λ _. ⌜ lent (now (meta .exit)) (now (cells .exit))
+        ≡ fold giveBack (news (slotOf base (now (slot .entry)) .writes)) (lent (now (meta .entry)) (now (cells .entry))) ⌝ }
+{
+    let mut left = at_most(slot[WRITES], MOST_WRITES as u64);
+    let mut a = WRITES + 1;
+    while left > 0 {
+        give_back(meta, cells, Cell(slot[a + 2]));
+        a += 3;
+        left -= 1;
+    }
+}

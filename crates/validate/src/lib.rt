@@ -1,0 +1,266 @@
+// The judge of a commit: every test that paper 01 has for it, in its order, and no change. Nothing is asked of the lent lengths: what is
+// not there reads as 0, as the rules read it.
+use arena::version_at;
+use rules::CELL_WORDS;
+use rules::CELLS;
+use rules::Cell;
+use rules::ID;
+use rules::MOST_READS;
+use rules::MOST_WRITES;
+use rules::READS;
+use rules::ROWS;
+use rules::TOP;
+use rules::TxId;
+use rules::Verdict;
+use rules::Version;
+use rules::WIDTH;
+use rules::WRITES;
+use rules::is_active;
+ghost use mathlib.Core.Path.{_≡_};
+ghost use mathlib.Core.List.{[]};
+ghost use Prim.Native.Nat.{min};
+ghost use lib.ListN.{getD};
+ghost use Rattle.rules.specs.Sizes.{base};
+ghost use Rattle.rules.specs.Slots.{slotOf, write, rec};
+ghost use Rattle.rules.specs.Visible.{conflict};
+ghost use Rattle.rules.specs.Outcome.{each};
+ghost use Rattle.rules.specs.Verdicts.{verdict};
+ghost use Rattle.rules.specs.Commit.{recordTests, baseTests, newTests, commitTests};
+ghost use Rattle.validate.specs.TestLaws.{lent, sized};
+
+// Paper 01's numbers for the refusals that a commit can come to.
+const WRITE_CONFLICT: u64 = 8;
+
+const READ_CONFLICT: u64 = 9;
+
+const DAMAGED: u64 = 15;
+
+// A count above its limit reads as the limit.
+fn at_most(x: u64, most: u64) -> u64
+    ensures { λ r. ⌜ r ≡ min x most ⌝ }
+{
+    if x < most { x } else { most }
+}
+
+// A word of an arena; past its end, 0.
+fn word_at(arena: &[u64], i: usize) -> u64
+    ensures { λ r. ⌜ r ≡ getD (now (arena .entry)) i 0 ⌝ }
+{
+    if i < arena.len() {
+        return arena[i];
+    }
+    0
+}
+
+// Validation of one version against the xmin that was recorded for it.
+fn is_conflict(slot: &[u64; WIDTH], v: Version, xmin: TxId) -> bool
+    ensures { λ r. ⌜ r ≡ conflict (slotOf base (now (slot .entry))) v (xmin .0) ⌝ }
+{
+    let creator = v.xmin;
+    if creator.0 != xmin.0 {
+        return true;
+    }
+    let ended = v.xmax;
+    if ended.0 == 0 {
+        return false;
+    }
+    if ended.0 == slot[ID] {
+        return false;
+    }
+    if ended.0 >= slot[TOP] {
+        return true;
+    }
+    is_active(slot, ended)
+}
+
+// One read record, in a store of n cells.
+fn check_record(
+    cells: &[[u64; CELL_WORDS]],
+    n: u64,
+    slot: &[u64; WIDTH],
+    row: u64,
+    cell: Cell,
+    xmin: TxId,
+) -> Verdict
+    ensures { λ r. ⌜ r ≡ verdict
+        (recordTests (sized 0 n [] (now (cells .entry))) (slotOf base (now (slot .entry))) (rec row (cell .0) (xmin .0))) ⌝ }
+{
+    let c = cell.0;
+    if c == 0 {
+        return Verdict::Refused {
+            number: DAMAGED,
+            value: 0,
+        };
+    }
+    if n < c {
+        return Verdict::Refused {
+            number: DAMAGED,
+            value: 0,
+        };
+    }
+    if is_conflict(slot, version_at(cells, cell), xmin) {
+        return Verdict::Refused {
+            number: READ_CONFLICT,
+            value: row,
+        };
+    }
+    Verdict::Fine
+}
+
+// Every read record, in order.
+pub fn check_records(meta: &[u64], cells: &[[u64; CELL_WORDS]], slot: &[u64; WIDTH]) -> Verdict
+    ensures { λ r. ⌜ r ≡ verdict
+        (each (recordTests (lent (now (meta .entry)) [] (now (cells .entry))) (slotOf base (now (slot .entry))))
+        (slotOf base (now (slot .entry)) .recs)) ⌝ }
+{
+    let n = word_at(meta, CELLS);
+    let mut left = at_most(slot[READS], MOST_READS as u64);
+    let mut a = READS + 1;
+    while left > 0 {
+        let found = check_record(
+            cells,
+            n,
+            slot,
+            slot[a],
+            Cell(slot[a + 1]),
+            TxId(slot[a + 2]),
+        );
+        let Verdict::Fine = found else {
+            return found;
+        };
+        a += 3;
+        left -= 1;
+    }
+    Verdict::Fine
+}
+
+// One write's head and base, in a store of r rows and n cells. A base of 0 still has its head to match.
+fn check_base(
+    rows: &[u64],
+    cells: &[[u64; CELL_WORDS]],
+    r: u64,
+    n: u64,
+    row: u64,
+    base: Cell,
+) -> Verdict
+    ensures { λ v. ⌜ v ≡ verdict (baseTests (sized r n (now (rows .entry)) (now (cells .entry))) (write row (base .0) 0)) ⌝ }
+{
+    let b = base.0;
+    if row >= r {
+        return Verdict::Refused {
+            number: DAMAGED,
+            value: 0,
+        };
+    }
+    if word_at(rows, row as usize) != b {
+        return Verdict::Refused {
+            number: WRITE_CONFLICT,
+            value: row,
+        };
+    }
+    if b == 0 {
+        return Verdict::Fine;
+    }
+    if n < b {
+        return Verdict::Refused {
+            number: DAMAGED,
+            value: 0,
+        };
+    }
+    let ended = version_at(cells, base).xmax;
+    if ended.0 != 0 {
+        return Verdict::Refused {
+            number: WRITE_CONFLICT,
+            value: row,
+        };
+    }
+    Verdict::Fine
+}
+
+// The head and the base of every write, in order.
+pub fn check_bases(
+    meta: &[u64],
+    rows: &[u64],
+    cells: &[[u64; CELL_WORDS]],
+    slot: &[u64; WIDTH],
+) -> Verdict
+    ensures { λ r. ⌜ r ≡ verdict
+        (each (baseTests (lent (now (meta .entry)) (now (rows .entry)) (now (cells .entry))))
+        (slotOf base (now (slot .entry)) .writes)) ⌝ }
+{
+    let r = word_at(meta, ROWS);
+    let n = word_at(meta, CELLS);
+    let mut left = at_most(slot[WRITES], MOST_WRITES as u64);
+    let mut a = WRITES + 1;
+    while left > 0 {
+        let found = check_base(rows, cells, r, n, slot[a], Cell(slot[a + 1]));
+        let Verdict::Fine = found else {
+            return found;
+        };
+        a += 3;
+        left -= 1;
+    }
+    Verdict::Fine
+}
+
+// One write's new cell, in a store of n cells.
+fn check_new(n: u64, new: Cell) -> Verdict
+    ensures { λ r. ⌜ r ≡ verdict (newTests (sized 0 n [] []) (write 0 0 (new .0))) ⌝ }
+{
+    if new.0 == 0 {
+        return Verdict::Refused {
+            number: DAMAGED,
+            value: 0,
+        };
+    }
+    if n < new.0 {
+        return Verdict::Refused {
+            number: DAMAGED,
+            value: 0,
+        };
+    }
+    Verdict::Fine
+}
+
+// Every write's new cell, in order. The changes use it first, so its damage is told after every head and base.
+pub fn check_news(meta: &[u64], slot: &[u64; WIDTH]) -> Verdict
+    ensures { λ r. ⌜ r ≡ verdict (each (newTests (lent (now (meta .entry)) [] [])) (slotOf base (now (slot .entry)) .writes)) ⌝ }
+{
+    let n = word_at(meta, CELLS);
+    let mut left = at_most(slot[WRITES], MOST_WRITES as u64);
+    let mut a = WRITES + 1;
+    while left > 0 {
+        let found = check_new(n, Cell(slot[a + 2]));
+        let Verdict::Fine = found else {
+            return found;
+        };
+        a += 3;
+        left -= 1;
+    }
+    Verdict::Fine
+}
+
+// All that a commit tests after its slot. One without writes has nothing to test: it just ends.
+pub fn check_commit(
+    meta: &[u64],
+    rows: &[u64],
+    cells: &[[u64; CELL_WORDS]],
+    slot: &[u64; WIDTH],
+) -> Verdict
+    ensures { λ r. ⌜ r ≡ verdict
+        (commitTests (lent (now (meta .entry)) (now (rows .entry)) (now (cells .entry)))
+        (slotOf base (now (slot .entry))) (slotOf base (now (slot .entry)) .writes)) ⌝ }
+{
+    if slot[WRITES] == 0 {
+        return Verdict::Fine;
+    }
+    let read = check_records(meta, cells, slot);
+    let Verdict::Fine = read else {
+        return read;
+    };
+    let based = check_bases(meta, rows, cells, slot);
+    let Verdict::Fine = based else {
+        return based;
+    };
+    check_news(meta, slot)
+}
