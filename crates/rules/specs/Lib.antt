@@ -20,3 +20,6 @@ pub mod Run
 pub mod WholeRun
 pub mod WordLaws
 pub mod WorkedNumbers
+pub mod Cases
+pub mod RefusedChangesNothing
+pub mod Exactly

@@ -1,0 +1,257 @@
+-- A call's refusals as a table: lines in the paper's order, each a condition, its number and the value returned with it. The call
+-- refuses with the number of the first line whose condition holds; a later line applies only where no earlier one does. What is
+-- proved of a call is that it refuses exactly so, and changes nothing then. The conditions are propositions; that each test of the
+-- definition decides its line's condition is shown test by test, and the rest of the proof is the same for every call.
+use Prim.Native.Nat.{ℕ, zero, suc, _≤_, _<_}
+use mathlib.Core.Bool.{Bool, true, false, not, _&&_, _||_, cond}
+use mathlib.Core.List.{List, [], _∷_, _++_}
+use mathlib.Core.Path.{_≡_, refl, sym, ap, _∙_}
+use mathlib.Core.Logic.{_≢_, _↔_, _⊎_, inl, inr, ⊎-elim}
+use native.Mathlib.Omega.{arith}
+use lib.Dec.{eqb, ltb, leb}
+use borrow.Author.Tests.{eqb-true, eqb-false, ltb-true, ltb-false, leb-true, leb-false, not-true, not-false}
+use Rattle.rules.specs.declared.ReadAnswer.{ReadAnswer}
+use Rattle.rules.specs.declared.Answer.{Answer}
+use Rattle.rules.specs.Sizes.{Sizes}
+use Rattle.rules.specs.Lists.{nonzero, has}
+use Rattle.rules.specs.Cases.{byBool, no-both}
+use Rattle.rules.specs.Memory.{Mem}
+use Rattle.rules.specs.Outcome.{Outcome, out, Test, test, guard, each}
+
+-- ---- tables
+
+pub record Line : Type 1 where
+  pub holds : Type 0
+  pub number : ℕ
+  pub value : ℕ
+
+abbrev pub line : Type 0 → ℕ → ℕ → Line
+line P k x = record { holds = P; number = k; value = x }
+
+-- the first line that applies gives number k and value x
+abbrev pub Refuses : List Line → ℕ → ℕ → Type 0
+Refuses [] k x = ⊥
+Refuses (p ∷ l) k x = (p .holds × (k ≡ p .number) × (x ≡ p .value)) ⊎ ((p .holds → ⊥) × Refuses l k x)
+
+-- no line applies
+abbrev pub NoneOf : List Line → Type 0
+NoneOf [] = Unit {0}
+NoneOf (p ∷ l) = (p .holds → ⊥) × NoneOf l
+
+-- the lines of each member, in order
+abbrev pub eachOf : {A : Type 0} → (A → List Line) → List A → List Line
+eachOf f [] = []
+eachOf f (a ∷ l) = f a ++ eachOf f l
+
+-- x is a member
+abbrev pub In : {A : Type 0} → A → List A → Type 0
+In x [] = ⊥
+In x (y ∷ l) = (x ≡ y) ⊎ In x l
+
+-- every member has the property
+abbrev pub All : {A : Type 0} → (A → Type 0) → List A → Type 0
+All P [] = Unit {0}
+All P (a ∷ l) = P a × All P l
+
+-- ---- a test decides a condition
+
+pub record Reflects (b : Bool) (P : Type 0) : Type 0 where
+  pub yes : b ≡ true → P
+  pub no : b ≡ false → P → ⊥
+
+pub holds-true : (b : Bool) {P : Type 0} → Reflects b P → P → b ≡ true
+holds-true b r p = byBool b (λ e. e) (λ e. absurd (r .no e p))
+
+pub fails-false : (b : Bool) {P : Type 0} → Reflects b P → (P → ⊥) → b ≡ false
+fails-false b r n = byBool b (λ e. absurd (n (r .yes e))) (λ e. e)
+
+pub is-equal : (a b : ℕ) → Reflects (eqb a b) (a ≡ b)
+is-equal a b = record { yes = eqb-true a b; no = eqb-false a b }
+
+pub is-less : (a b : ℕ) → Reflects (ltb a b) (a < b)
+is-less a b = record { yes = ltb-true a b; no = λ e p. omega (arith, ltb-false a b e) }
+
+pub is-most : (a b : ℕ) → Reflects (leb a b) (a ≤ b)
+is-most a b = record { yes = leb-true a b; no = λ e p. omega (arith, leb-false a b e) }
+
+pub is-not : (b : Bool) {P : Type 0} → Reflects b P → Reflects (not b) (P → ⊥)
+is-not b r = record { yes = λ e. r .no (not-true b e); no = λ e n. n (r .yes (not-false b e)) }
+
+pub is-nonzero : (a : ℕ) → Reflects (nonzero a) (a ≢ 0)
+is-nonzero a = is-not (eqb a 0) (is-equal a 0)
+
+pub is-both : (a b : Bool) {P Q : Type 0} → Reflects a P → Reflects b Q → Reflects (a && b) (P × Q)
+is-both true b r s = record { yes = λ e. (r .yes refl, s .yes e); no = λ e p. s .no e (p .1) }
+is-both false b r s = record { yes = λ e. absurd (no-both false e refl); no = λ e p. r .no refl (p .0) }
+
+pub is-either : (a b : Bool) {P Q : Type 0} → Reflects a P → Reflects b Q → Reflects (a || b) (P ⊎ Q)
+is-either true b r s = record { yes = λ e. inl (r .yes refl); no = λ e p. no-both true refl e }
+is-either false b r s = record { yes = λ e. inr (s .yes e); no = λ e. ⊎-elim (r .no refl) (s .no e) }
+
+pub is-in : (x : ℕ) (l : List ℕ) → Reflects (has x l) (In x l)
+unfolding has
+is-in x [] = record { yes = λ e. no-both false e refl; no = λ e p. p }
+is-in x (y ∷ l) = is-either (eqb x y) (has x l) (is-equal x y) (is-in x l)
+
+-- the same condition in other words
+pub is-also : (b : Bool) {P Q : Type 0} → Reflects b P → (P → Q) → (Q → P) → Reflects b Q
+is-also b r f g = record { yes = λ e. f (r .yes e); no = λ e q. r .no e (g q) }
+
+-- ---- tests say lines
+
+abbrev pub Says : List Test → List Line → Type 0
+Says [] [] = Unit {0}
+Says [] (p ∷ l) = ⊥
+Says (t ∷ l) [] = ⊥
+Says (t ∷ l) (p ∷ q) = Reflects (t .fails) (p .holds) × (t .number ≡ p .number) × (t .value ≡ p .value) × Says l q
+
+pub says-append : (l l′ : List Test) (q q′ : List Line) → Says l q → Says l′ q′ → Says (l ++ l′) (q ++ q′)
+says-append [] l′ [] q′ s s′ = s′
+says-append [] l′ (p ∷ q) q′ s s′ = absurd s
+says-append (t ∷ l) l′ [] q′ s s′ = absurd s
+says-append (t ∷ l) l′ (p ∷ q) q′ s s′ = (s .0, s .1, s .2, says-append l l′ q q′ (s .3) s′)
+
+pub says-each : {A : Type 0} (f : A → List Test) (g : A → List Line) → ((a : A) → Says (f a) (g a)) → (l : List A) → Says (each f l) (eachOf g l)
+unfolding each
+says-each f g s [] = tt
+says-each f g s (a ∷ l) = says-append (f a) (each f l) (g a) (eachOf g l) (s a) (says-each f g s l)
+
+-- ---- a call refuses exactly as its table says
+
+-- how a refusal is told as an answer: two told alike have one number and one value
+pub record Told (A : Type 0) : Type 0 where
+  pub tell : ℕ → ℕ → A
+  pub same : {k x k′ x′ : ℕ} → tell k x ≡ tell k′ x′ → (k ≡ k′) × (x ≡ x′)
+
+pub one-refusal : {k x k′ x′ : ℕ} → Answer.Refused k x ≡ Answer.Refused k′ x′ → (k ≡ k′) × (x ≡ x′)
+one-refusal e = (cc, cc)
+
+pub one-refused-read : {k x k′ x′ : ℕ} → ReadAnswer.Refused k x ≡ ReadAnswer.Refused k′ x′ → (k ≡ k′) × (x ≡ x′)
+one-refused-read e = (cc, cc)
+
+abbrev pub inAnswer : Told Answer
+inAnswer = record { tell = Answer.Refused; same = one-refusal }
+
+abbrev pub inRead : Told ReadAnswer
+inRead = record { tell = ReadAnswer.Refused; same = one-refused-read }
+
+-- the answer tells k and x only where the table says so; where it says so the whole outcome is that answer and nothing changed; and
+-- where no line applies the outcome is `done`
+pub record Exactly {z : Sizes} {A B : Type 0} (T : Told A) (m : Mem z) (o done : Outcome z A B) (table : List Line) : Type 0 where
+  pub only : (k x : ℕ) → o .answer ≡ T .tell k x → Refuses table k x
+  pub when : (k x : ℕ) → Refuses table k x → o ≡ out (T .tell k x) [] m
+  pub otherwise : NoneOf table → o ≡ done
+  -- the table is decided: a line applies, or none does
+  pub decided : NoneOf table ⊎ ((k : ℕ) × (x : ℕ) × Refuses table k x)
+
+module _ {z : Sizes} {A B : Type 0} (T : Told A) (m : Mem z) where
+  -- an outcome that is accepted
+  pub exactly-done : (o : Outcome z A B) → ((k x : ℕ) → o .answer ≡ T .tell k x → ⊥) → Exactly T m o o []
+  exactly-done o n = record { only = n; when = λ k x f. absurd f; otherwise = λ u. refl; decided = inl tt }
+
+  -- a refusal for a condition that holds
+  pub exactly-refused : (k x : ℕ) (P : Type 0) (rest : List Line) (done : Outcome z A B) → P → Exactly T m (out (T .tell k x) [] m) done (line P k x ∷ rest)
+  exactly-refused k x P rest done p =
+      record {
+        only = λ k′ x′ e. inl (p, sym (T .same e .0), sym (T .same e .1));
+        when = λ k′ x′. ⊎-elim (λ h. rw (h .1, h .2)) (λ h. absurd (h .0 p));
+        otherwise = λ n. absurd (n .0 p);
+        decided = inr (k, x, inl (p, refl, refl));
+      }
+
+  -- a line whose condition fails
+  pub exactly-skip : (P : Type 0) (k x : ℕ) (rest : List Line) (o done : Outcome z A B) → (P → ⊥) → Exactly T m o done rest → Exactly T m o done (line P k x ∷ rest)
+  exactly-skip P k x rest o done n h =
+      record {
+        only = λ k′ x′ e. inr (n, h .only k′ x′ e);
+        when = λ k′ x′. ⊎-elim (λ q. absurd (n (q .0))) (λ q. h .when k′ x′ (q .1));
+        otherwise = λ q. h .otherwise (q .1);
+        decided = ⊎-elim (λ q. inl (n, q)) (λ q. inr (q .0, q .1, inr (n, q .2))) (h .decided);
+      }
+
+  pub exactly-guarded : (l : List Test) (q rest : List Line) (o done : Outcome z A B) → Says l q → Exactly T m o done rest → Exactly T m (guard (λ k x. out (T .tell k x) [] m) l o) done (q ++ rest)
+  unfolding guard
+  exactly-guarded [] [] rest o done s h = h
+  exactly-guarded [] (p ∷ q) rest o done s h = absurd s
+  exactly-guarded (t ∷ l) [] rest o done s h = absurd s
+  exactly-guarded (t ∷ l) (p ∷ q) rest o done s h = byBool (t .fails)
+      (λ e. rw (e, s .1, s .2) (exactly-refused (p .number) (p .value) (p .holds) (q ++ rest) done (s .0 .yes e)))
+      (λ e. rw e (exactly-skip (p .holds) (p .number) (p .value) (q ++ rest) _ done (s .0 .no e) (exactly-guarded l q rest o done (s .3) h)))
+
+-- ---- a table read flat
+
+-- no line has number k
+abbrev pub Lacks : ℕ → List Line → Type 0
+Lacks k [] = Unit {0}
+Lacks k (p ∷ l) = (k ≢ p .number) × Lacks k l
+
+pub lacks-append : (k : ℕ) (a b : List Line) → Lacks k a → Lacks k b → Lacks k (a ++ b)
+lacks-append k [] b s s′ = s′
+lacks-append k (p ∷ a) b s s′ = (s .0, lacks-append k a b (s .1) s′)
+
+pub lacks-each : {A : Type 0} (k : ℕ) (g : A → List Line) → ((a : A) → Lacks k (g a)) → (l : List A) → Lacks k (eachOf g l)
+lacks-each k g s [] = tt
+lacks-each k g s (a ∷ l) = lacks-append k (g a) (eachOf g l) (s a) (lacks-each k g s l)
+
+pub lacks-refuses : (k x : ℕ) (a : List Line) → Lacks k a → Refuses a k x → ⊥
+lacks-refuses k x [] s r = r
+lacks-refuses k x (p ∷ a) s (inl q) = s .0 (q .1)
+lacks-refuses k x (p ∷ a) s (inr q) = lacks-refuses k x a (s .1) (q .1)
+
+pub none-append : (a b : List Line) → NoneOf (a ++ b) ↔ (NoneOf a × NoneOf b)
+none-append [] b = (λ n. (tt, n), λ n. n .1)
+none-append (p ∷ a) b = (λ n. let r = none-append a b .0 (n .1) in ((n .0, r .0), r .1), λ n. (n .0 .0, none-append a b .1 (n .0 .1, n .1)))
+
+pub none-each : {A : Type 0} (g : A → List Line) (l : List A) → NoneOf (eachOf g l) ↔ All (λ a. NoneOf (g a)) l
+none-each g [] = (λ n. tt, λ n. tt)
+none-each g (a ∷ l) = (λ n. let r = none-append (g a) (eachOf g l) .0 n in (r .0, none-each g l .0 (r .1)), λ n. none-append (g a) (eachOf g l) .1 (n .0, none-each g l .1 (n .1)))
+
+module _ (k x : ℕ) where
+  append-to : (a b : List Line) → Refuses (a ++ b) k x → Refuses a k x ⊎ (NoneOf a × Refuses b k x)
+  append-to [] b r = inr (tt, r)
+  append-to (p ∷ a) b (inl q) = inl (inl q)
+  append-to (p ∷ a) b (inr q) = ⊎-elim (λ r. inl (inr (q .0, r))) (λ r. inr ((q .0, r .0), r .1)) (append-to a b (q .1))
+
+  append-from : (a b : List Line) → Refuses a k x ⊎ (NoneOf a × Refuses b k x) → Refuses (a ++ b) k x
+  append-from [] b (inl f) = absurd f
+  append-from [] b (inr q) = q .1
+  append-from (p ∷ a) b (inl (inl q)) = inl q
+  append-from (p ∷ a) b (inl (inr q)) = inr (q .0, append-from a b (inl (q .1)))
+  append-from (p ∷ a) b (inr q) = inr (q .0 .0, append-from a b (inr (q .0 .1, q .1)))
+
+  -- a refusal of two tables, one after the other: of the first; or of the second, and no line of the first applies
+  pub refuses-append : (a b : List Line) → Refuses (a ++ b) k x ↔ (Refuses a k x ⊎ (NoneOf a × Refuses b k x))
+  refuses-append a b = (append-to a b, append-from a b)
+
+  -- a number that the first table lacks
+  pub refuses-past : (a b : List Line) → Lacks k a → Refuses (a ++ b) k x ↔ (NoneOf a × Refuses b k x)
+  refuses-past a b s = (λ r. ⊎-elim (λ f. absurd (lacks-refuses k x a s f)) (λ q. q) (refuses-append a b .0 r), λ q. refuses-append a b .1 (inr q))
+
+  -- a number that the second table lacks
+  pub refuses-before : (a b : List Line) → Lacks k b → Refuses (a ++ b) k x ↔ Refuses a k x
+  refuses-before a b s = (λ r. ⊎-elim (λ q. q) (λ q. absurd (lacks-refuses k x b s (q .1))) (refuses-append a b .0 r), λ q. refuses-append a b .1 (inl q))
+
+  -- a refusal over the members of a list: the first member that refuses, and none before it does
+  pub record FirstOf {A : Type 0} (g : A → List Line) (l : List A) : Type 0 where
+    pub before : List A
+    pub member : A
+    pub after : List A
+    pub parts : l ≡ before ++ member ∷ after
+    pub fine : All (λ c. NoneOf (g c)) before
+    pub refuses : Refuses (g member) k x
+
+  each-to : {A : Type 0} (g : A → List Line) (l : List A) → Refuses (eachOf g l) k x → FirstOf g l
+  each-to g [] r = absurd r
+  each-to {A} g (c ∷ l) r = ⊎-elim
+      (λ q. record { before = []; member = c; after = l; parts = refl; fine = tt; refuses = q })
+      (λ q.
+      let i = each-to g l (q .1) in
+      record { before = c ∷ i .before; member = i .member; after = i .after; parts = ap (λ (y : List A). c ∷ y) (i .parts); fine = (q .0, i .fine); refuses = i .refuses })
+      (append-to (g c) (eachOf g l) r)
+
+  each-from : {A : Type 0} (g : A → List Line) (before : List A) (a : A) (after l : List A) → l ≡ before ++ a ∷ after → All (λ c. NoneOf (g c)) before → Refuses (g a) k x → Refuses (eachOf g l) k x
+  each-from g [] a after l e n r = rw e (append-from (g a) (eachOf g after) (inl r))
+  each-from g (b ∷ before) a after l e n r = rw e (append-from (g b) (eachOf g (before ++ a ∷ after)) (inr (n .0, each-from g before a after (before ++ a ∷ after) refl (n .1) r)))
+
+  pub refuses-each : {A : Type 0} (g : A → List Line) (l : List A) → Refuses (eachOf g l) k x ↔ FirstOf g l
+  refuses-each g l = (each-to g l, λ q. each-from g (q .before) (q .member) (q .after) l (q .parts) (q .fine) (q .refuses))
