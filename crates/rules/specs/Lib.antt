@@ -23,3 +23,5 @@ pub mod WorkedNumbers
 pub mod Cases
 pub mod RefusedChangesNothing
 pub mod Exactly
+pub mod Terms
+pub mod Along
