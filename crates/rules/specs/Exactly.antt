@@ -178,6 +178,32 @@ module _ {z : Sizes} {A B : Type 0} (T : Told A) (m : Mem z) where
       (λ e. rw (e, s .1, s .2) (exactly-refused (p .number) (p .value) (p .holds) (q ++ rest) done (s .0 .yes e)))
       (λ e. rw e (exactly-skip (p .holds) (p .number) (p .value) (q ++ rest) _ done (s .0 .no e) (exactly-guarded l q rest o done (s .3) h)))
 
+-- a table gives one refusal, or none
+pub refuses-one : (l : List Line) (k x k′ x′ : ℕ) → Refuses l k x → Refuses l k′ x′ → (k ≡ k′) × (x ≡ x′)
+refuses-one [] k x k′ x′ r r′ = absurd r
+refuses-one (p ∷ l) k x k′ x′ (inl q) (inl q′) = (q .1 ∙ sym (q′ .1), q .2 ∙ sym (q′ .2))
+refuses-one (p ∷ l) k x k′ x′ (inl q) (inr q′) = absurd (q′ .0 (q .0))
+refuses-one (p ∷ l) k x k′ x′ (inr q) (inl q′) = absurd (q .0 (q′ .0))
+refuses-one (p ∷ l) k x k′ x′ (inr q) (inr q′) = refuses-one l k x k′ x′ (q .1) (q′ .1)
+
+pub none-refuses : (l : List Line) (k x : ℕ) → NoneOf l → Refuses l k x → ⊥
+none-refuses [] k x n r = r
+none-refuses (p ∷ l) k x n (inl q) = n .0 (q .0)
+none-refuses (p ∷ l) k x n (inr q) = none-refuses l k x (n .1) (q .1)
+
+module _ {z : Sizes} {A B : Type 0} (T : Told A) (m : Mem z) where
+  pub exactly-blocked : (k x : ℕ) (l : List Line) (done : Outcome z A B) → Refuses l k x → Exactly T m (out (T .tell k x) [] m) done l
+  exactly-blocked k x l done r =
+      record {
+        only = λ k′ x′ e. rw (← T .same e .0, ← T .same e .1) r;
+        when = λ k′ x′ r′. let e = refuses-one l k x k′ x′ r r′ in rw (e .0, e .1);
+        otherwise = λ n. absurd (none-refuses l k x n r);
+        decided = inr (k, x, r);
+      }
+
+  pub exactly-accepted : (o : Outcome z A B) (l : List Line) → ((k x : ℕ) → o .answer ≡ T .tell k x → ⊥) → NoneOf l → Exactly T m o o l
+  exactly-accepted o l a n = record { only = λ k x e. absurd (a k x e); when = λ k x r. absurd (none-refuses l k x n r); otherwise = λ u. refl; decided = inl n }
+
 -- ---- a table read flat
 
 -- no line has number k

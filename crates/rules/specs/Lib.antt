@@ -25,3 +25,5 @@ pub mod RefusedChangesNothing
 pub mod Exactly
 pub mod Terms
 pub mod Along
+pub mod SharedLines
+pub mod ReadRefuses
