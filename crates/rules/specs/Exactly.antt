@@ -4,19 +4,20 @@
 -- definition decides its line's condition is shown test by test, and the rest of the proof is the same for every call.
 use Prim.Native.Nat.{ℕ, zero, suc, _≤_, _<_}
 use mathlib.Core.Bool.{Bool, true, false, not, _&&_, _||_, cond}
-use mathlib.Core.List.{List, [], _∷_, _++_}
-use mathlib.Core.Path.{_≡_, refl, sym, ap, _∙_}
+use mathlib.Core.List.{List, [], _∷_, _++_, append-nil}
+use mathlib.Core.Path.{_≡_, refl, sym, ap, _∙_, subst}
 use mathlib.Core.Logic.{_≢_, _↔_, _⊎_, inl, inr, ⊎-elim}
 use native.Mathlib.Omega.{arith}
 use lib.Dec.{eqb, ltb, leb}
 use borrow.Author.Tests.{eqb-true, eqb-false, ltb-true, ltb-false, leb-true, leb-false, not-true, not-false}
 use Rattle.rules.specs.declared.ReadAnswer.{ReadAnswer}
 use Rattle.rules.specs.declared.Answer.{Answer}
+use Rattle.rules.specs.declared.Answer.the-variants.{Done, Begun, Wrote, Vacuumed, Listed}
 use Rattle.rules.specs.Sizes.{Sizes}
 use Rattle.rules.specs.Lists.{nonzero, has}
 use Rattle.rules.specs.Cases.{byBool, no-both}
 use Rattle.rules.specs.Memory.{Mem}
-use Rattle.rules.specs.Outcome.{Outcome, out, Test, test, guard, each}
+use Rattle.rules.specs.Outcome.{Outcome, out, Test, test, guard, each, refuse}
 
 -- ---- tables
 
@@ -204,6 +205,80 @@ module _ {z : Sizes} {A B : Type 0} (T : Told A) (m : Mem z) where
   pub exactly-accepted : (o : Outcome z A B) (l : List Line) → ((k x : ℕ) → o .answer ≡ T .tell k x → ⊥) → NoneOf l → Exactly T m o o l
   exactly-accepted o l a n = record { only = λ k x e. absurd (a k x e); when = λ k x r. absurd (none-refuses l k x n r); otherwise = λ u. refl; decided = inl n }
 
+-- an answer that is no refusal
+abbrev pub isRefusal : Answer → ℕ
+isRefusal Done = 0
+isRefusal (Begun s i) = 0
+isRefusal (Wrote c) = 0
+isRefusal (Vacuumed n v) = 0
+isRefusal (Listed n) = 0
+isRefusal (Answer.Refused k x) = 1
+
+pub not-refused : {z : Sizes} {B : Type 0} (o : Outcome z Answer B) → isRefusal (o .answer) ≡ 0 → (k x : ℕ) → o .answer ≡ Answer.Refused k x → ⊥
+not-refused o e k x h =
+    let q : isRefusal (o .answer) ≡ 1 = ap isRefusal h in
+    omega arith
+
+pub exactly-answered : {z : Sizes} {B : Type 0} (m : Mem z) (o : Outcome z Answer B) → isRefusal (o .answer) ≡ 0 → Exactly inAnswer m o o []
+exactly-answered m o e = exactly-done inAnswer m o (not-refused o e)
+
+-- a call that is its tests and an accepted outcome
+pub exactly-tested : {z : Sizes} {B : Type 0} (m : Mem z) (l : List Test) (q : List Line) (o : Outcome z Answer B) → isRefusal (o .answer) ≡ 0 → Says l q → Exactly inAnswer m (guard (refuse m) l o) o q
+exactly-tested m l q o e s = subst (Exactly inAnswer m (guard (refuse m) l o) o) (append-nil q) (exactly-guarded inAnswer m l q [] o o s (exactly-answered m o e))
+
+pub guard-append : {A : Type 0} (r : ℕ → ℕ → A) (l l′ : List Test) (a : A) → guard r (l ++ l′) a ≡ guard r l (guard r l′ a)
+unfolding guard
+guard-append r [] l′ a = refl
+guard-append r (t ∷ l) l′ a = rw (guard-append r l l′ a)
+
+-- the answer tells k and x if and only if the table says so
+pub refused-iff : {z : Sizes} {A B : Type 0} (T : Told A) (m : Mem z) (o done : Outcome z A B) (l : List Line) → Exactly T m o done l → (k x : ℕ) → (o .answer ≡ T .tell k x) ↔ Refuses l k x
+refused-iff T m o done l h k x = (h .only k x, λ r. ap (λ (y : Outcome _ _ _). y .answer) (h .when k x r))
+
+-- ---- lines that are asked only under a condition
+
+abbrev pub under : Type 0 → List Line → List Line
+under P [] = []
+under P (p ∷ l) = line (P × p .holds) (p .number) (p .value) ∷ under P l
+
+pub under-on : (P : Type 0) (l : List Line) (k x : ℕ) → P → Refuses l k x → Refuses (under P l) k x
+under-on P [] k x h r = r
+under-on P (p ∷ l) k x h (inl q) = inl ((h, q .0), q .1, q .2)
+under-on P (p ∷ l) k x h (inr q) = inr (λ y. q .0 (y .1), under-on P l k x h (q .1))
+
+pub on-under : (P : Type 0) (l : List Line) (k x : ℕ) → Refuses (under P l) k x → P × Refuses l k x
+on-under P [] k x r = absurd r
+on-under P (p ∷ l) k x (inl q) = (q .0 .0, inl (q .0 .1, q .1, q .2))
+on-under P (p ∷ l) k x (inr q) =
+    let i = on-under P l k x (q .1) in
+    (i .0, inr (λ y. q .0 (i .0, y), i .1))
+
+-- under a condition: the condition, and the lines
+pub refuses-under : (P : Type 0) (l : List Line) (k x : ℕ) → Refuses (under P l) k x ↔ (P × Refuses l k x)
+refuses-under P l k x = (on-under P l k x, λ q. under-on P l k x (q .0) (q .1))
+
+under-none : (P : Type 0) (l : List Line) → NoneOf l → NoneOf (under P l)
+under-none P [] n = tt
+under-none P (p ∷ l) n = (λ y. n .0 (y .1), under-none P l (n .1))
+
+pub none-under : (P : Type 0) (l : List Line) → P → NoneOf (under P l) → NoneOf l
+none-under P [] h n = tt
+none-under P (p ∷ l) h n = (λ y. n .0 (h, y), none-under P l h (n .1))
+
+pub not-under : (P : Type 0) (l : List Line) → (P → ⊥) → NoneOf (under P l)
+not-under P [] h = tt
+not-under P (p ∷ l) h = (λ y. h (y .0), not-under P l h)
+
+module _ {z : Sizes} {A B : Type 0} (T : Told A) (m : Mem z) (o done : Outcome z A B) where
+  pub exactly-under : (P : Type 0) (l : List Line) → P → Exactly T m o done l → Exactly T m o done (under P l)
+  exactly-under P l p h =
+      record {
+        only = λ k x e. under-on P l k x p (h .only k x e);
+        when = λ k x r. h .when k x (on-under P l k x r .1);
+        otherwise = λ n. h .otherwise (none-under P l p n);
+        decided = ⊎-elim (λ n. inl (under-none P l n)) (λ q. inr (q .0, q .1, under-on P l (q .0) (q .1) p (q .2))) (h .decided);
+      }
+
 -- ---- a table read flat
 
 -- no line has number k
@@ -218,6 +293,10 @@ lacks-append k (p ∷ a) b s s′ = (s .0, lacks-append k a b (s .1) s′)
 pub lacks-each : {A : Type 0} (k : ℕ) (g : A → List Line) → ((a : A) → Lacks k (g a)) → (l : List A) → Lacks k (eachOf g l)
 lacks-each k g s [] = tt
 lacks-each k g s (a ∷ l) = lacks-append k (g a) (eachOf g l) (s a) (lacks-each k g s l)
+
+pub lacks-under : (k : ℕ) (P : Type 0) (l : List Line) → Lacks k l → Lacks k (under P l)
+lacks-under k P [] s = tt
+lacks-under k P (p ∷ l) s = (s .0, lacks-under k P l (s .1))
 
 pub lacks-refuses : (k x : ℕ) (a : List Line) → Lacks k a → Refuses a k x → ⊥
 lacks-refuses k x [] s r = r

@@ -27,3 +27,4 @@ pub mod Terms
 pub mod Along
 pub mod SharedLines
 pub mod ReadRefuses
+pub mod CommitRefuses
