@@ -28,3 +28,6 @@ pub mod Along
 pub mod SharedLines
 pub mod ReadRefuses
 pub mod CommitRefuses
+pub mod CreateRefuses
+pub mod WriteRefuses
+pub mod AbortRefuses
