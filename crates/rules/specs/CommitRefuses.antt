@@ -96,7 +96,7 @@ module _ {z : Sizes} (m : Mem z) where
   valid-exactly : (t : Slot) (ws : List Write) (o : Outcome z Answer ℕ) → isRefusal (o .answer) ≡ 0 →
       Exactly inAnswer m (guard (refuse m) (commitTests m t ws) o) o (under (ws ≢ []) (eachOf (recordLines t) (t .recs) ++ eachOf baseLines ws ++ eachOf newLines ws))
   unfolding commitTests guard
-  valid-exactly t [] o e = exactly-accepted inAnswer m o _ (not-refused o e) (not-under (_≢_ {A = List Write} [] []) (eachOf (recordLines t) (t .recs) ++ eachOf baseLines [] ++ eachOf newLines []) (λ n. n refl))
+  valid-exactly t [] o e = exactly-accepted inAnswer m o _ (not-refused (o .answer) e) (not-under (_≢_ {A = List Write} [] []) (eachOf (recordLines t) (t .recs) ++ eachOf baseLines [] ++ eachOf newLines []) (λ n. n refl))
   valid-exactly t (w ∷ l) o e = exactly-under inAnswer m _ _ _ _ (no-cons w l) (exactly-tested m (commitTests m t (w ∷ l)) _ o e (commit-says t (w ∷ l)))
 
   pub commit-refuses-exactly : (s id : ℕ) → Exactly inAnswer m (commitOut m s id) (out Done [] (withSlot (publishAll id (slotAt m s .writes) m) s (emptied z))) (commitLines s id)

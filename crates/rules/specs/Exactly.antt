@@ -214,13 +214,13 @@ isRefusal (Vacuumed n v) = 0
 isRefusal (Listed n) = 0
 isRefusal (Answer.Refused k x) = 1
 
-pub not-refused : {z : Sizes} {B : Type 0} (o : Outcome z Answer B) → isRefusal (o .answer) ≡ 0 → (k x : ℕ) → o .answer ≡ Answer.Refused k x → ⊥
-not-refused o e k x h =
-    let q : isRefusal (o .answer) ≡ 1 = ap isRefusal h in
+pub not-refused : (a : Answer) → isRefusal a ≡ 0 → (k x : ℕ) → a ≡ Answer.Refused k x → ⊥
+not-refused a e k x h =
+    let q : isRefusal a ≡ 1 = ap isRefusal h in
     omega arith
 
 pub exactly-answered : {z : Sizes} {B : Type 0} (m : Mem z) (o : Outcome z Answer B) → isRefusal (o .answer) ≡ 0 → Exactly inAnswer m o o []
-exactly-answered m o e = exactly-done inAnswer m o (not-refused o e)
+exactly-answered m o e = exactly-done inAnswer m o (not-refused (o .answer) e)
 
 -- a call that is its tests and an accepted outcome
 pub exactly-tested : {z : Sizes} {B : Type 0} (m : Mem z) (l : List Test) (q : List Line) (o : Outcome z Answer B) → isRefusal (o .answer) ≡ 0 → Says l q → Exactly inAnswer m (guard (refuse m) l o) o q

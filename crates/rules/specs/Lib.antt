@@ -31,3 +31,4 @@ pub mod CommitRefuses
 pub mod CreateRefuses
 pub mod WriteRefuses
 pub mod AbortRefuses
+pub mod VacuumRefuses

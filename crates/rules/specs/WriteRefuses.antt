@@ -112,7 +112,7 @@ module _ {z : Sizes} (m : Mem z) where
       let i : LastEntry (slotAt m s .writes) row w = subst (OwnIs (slotAt m s .writes) row) e (own-is (slotAt m s .writes) row) in
       byBool (isCell (sizeN m) (w .new))
       (λ b. rw b
-      (exactly-accepted inAnswer m (written s id row v (some w)) (nowLines s id row) (not-refused (written s id row v (some w)) refl) (
+      (exactly-accepted inAnswer m (written s id row v (some w)) (nowLines s id row) (not-refused _ refl) (
         (λ q.
             let g : some w ≡ some (q .0) = sym e ∙ is-own (slotAt m s .writes) row (some (q .0)) (q .1) in
             let h : w ≡ q .0 = cc in
