@@ -205,6 +205,11 @@ module _ {z : Sizes} {A B : Type 0} (T : Told A) (m : Mem z) where
   pub exactly-accepted : (o : Outcome z A B) (l : List Line) → ((k x : ℕ) → o .answer ≡ T .tell k x → ⊥) → NoneOf l → Exactly T m o o l
   exactly-accepted o l a n = record { only = λ k x e. absurd (a k x e); when = λ k x r. absurd (none-refuses l k x n r); otherwise = λ u. refl; decided = inl n }
 
+  -- lines of which none applies
+  pub exactly-past : (a rest : List Line) (o done : Outcome z A B) → NoneOf a → Exactly T m o done rest → Exactly T m o done (a ++ rest)
+  exactly-past [] rest o done n h = h
+  exactly-past (p ∷ a) rest o done n h = exactly-skip T m (p .holds) (p .number) (p .value) (a ++ rest) o done (n .0) (exactly-past a rest o done (n .1) h)
+
 -- an answer that is no refusal
 abbrev pub isRefusal : Answer → ℕ
 isRefusal Done = 0

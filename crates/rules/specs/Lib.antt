@@ -32,3 +32,4 @@ pub mod CreateRefuses
 pub mod WriteRefuses
 pub mod AbortRefuses
 pub mod VacuumRefuses
+pub mod LookupRefuses

@@ -21,7 +21,7 @@ use Rattle.rules.specs.Memory.{Mem, sizeN, headAt, slotAt}
 use Rattle.rules.specs.Chain.{Look, found, nothing, tooLong, harmed, look}
 use Rattle.rules.specs.Outcome.{Outcome, out, guard, slotTests, rowTest, isCell}
 use Rattle.rules.specs.Read.{own, answerAt, Sight, blocked, sees, recorded, sightOf, ownSight, readRow, readAt, readEnd, readOut}
-use Rattle.rules.specs.Exactly.{Line, line, Refuses, NoneOf, Exactly, inRead, is-most, exactly-guarded, exactly-blocked, exactly-accepted, refuses-past}
+use Rattle.rules.specs.Exactly.{Line, line, Refuses, NoneOf, Exactly, inRead, is-most, holds-true, fails-false, exactly-guarded, exactly-blocked, exactly-accepted, refuses-past}
 use Rattle.rules.specs.Terms.{CellOf, is-cell, LastEntry, NoEntry, OwnIs, own-is, is-own, Recorded, is-recorded}
 use Rattle.rules.specs.Along.{FirstSeen, NoneSeen, TooLong, Harmed, LookIs, look-is, is-look}
 use Rattle.rules.specs.SharedLines.{rowLines, row-says}
@@ -170,6 +170,16 @@ module _ (z : Sizes) (n : ℕ) (f : ℕ → Version) (head : ℕ) (t : Slot) (re
   pub sight-is : SightIs (readRow z n f head t recs row)
   unfolding readRow
   sight-is = own-sight-is (own (t .writes) row) refl
+
+  -- where no line applies, what is said to be read is what is read
+  pub reads-is : (c : ℕ) (l : List Rec) → Reads c l → NoneOf sightLines → readRow z n f head t recs row ≡ sees c l
+  unfolding readRow ownSight sightOf
+  reads-is c l (ownWrite w i) u = rw (is-own (t .writes) row (some w) i) (byBool (isCell n (w .new)) (λ b. rw b) (λ b. absurd (u .0 (w, i, is-cell n (w .new) .no b))))
+  reads-is c l (noVersion i v) u = rw (is-own (t .writes) row none i, is-look n f t (z .walk) head nothing v)
+  reads-is c l (again d i v r) u = rw (is-own (t .writes) row none i, is-look n f t (z .walk) head (found d) v, holds-true (recorded d recs) (is-recorded d recs) r)
+  reads-is c l (newly d i v r) u =
+      rw (is-own (t .writes) row none i, is-look n f t (z .walk) head (found d) v, fails-false (recorded d recs) (is-recorded d recs) r)
+      (byBool (leb (z .reads) (length recs)) (λ b. absurd (u .1 .1 .1 .0 (i, (d, v, r, is-most (z .reads) (length recs) .yes b)))) (λ b. rw b))
 
 module _ {z : Sizes} (m : Mem z) (s id row : ℕ) where
   abbrev pub sightLinesAt : List Line
