@@ -208,3 +208,7 @@ module _ (n : ℕ) (f : ℕ → Version) where
     is-look k h nothing i = let r = from k (length (i .passed)) (i .within) in through-look (i .passed) k (r .0) h 0 (i .way .along) (i .way .cells) (i .unseen) (r .1) ∙ look-end (r .0) 0 refl
     is-look k h tooLong i = through-look (i .passed) k 0 h (i .further) (i .way .along) (i .way .cells) (i .unseen) (omega (arith, i .many)) ∙ look-limit (i .further) (i .goes)
     is-look k h harmed i = let r = above k (length (i .passed)) (i .within) in through-look (i .passed) k (suc (r .0)) h (i .further) (i .way .along) (i .way .cells) (i .unseen) (r .1) ∙ look-break (r .0) (i .further) (i .above)
+
+    -- two looks that cannot both be
+    pub look-apart : (k h : ℕ) (a b : Look) → LookIs k h a → LookIs k h b → a ≡ b
+    look-apart k h a b i j = sym (is-look k h a i) ∙ is-look k h b j

@@ -33,3 +33,4 @@ pub mod WriteRefuses
 pub mod AbortRefuses
 pub mod VacuumRefuses
 pub mod LookupRefuses
+pub mod ReadRefusedWhen

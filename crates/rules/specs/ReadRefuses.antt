@@ -27,7 +27,7 @@ use Rattle.rules.specs.Along.{FirstSeen, NoneSeen, TooLong, Harmed, Look
 use Rattle.rules.specs.SharedLines.{rowLines, row-says}
 
 -- the looks apart
-abbrev lookNumber : Look → ℕ
+abbrev pub lookNumber : Look → ℕ
 lookNumber (found c) = 0
 lookNumber nothing = 1
 lookNumber tooLong = 2

@@ -3,12 +3,13 @@ use Prim.Native.Nat.{ℕ, _≤_, _<_}
 use mathlib.Core.List.{List, [], _∷_, _++_}
 use mathlib.Core.Path.{_≡_, refl}
 use mathlib.Core.Logic.{_≢_, _⊎_}
+use native.Mathlib.Omega.{arith}
 use lib.ListN.{getD}
 use Rattle.rules.specs.Sizes.{Sizes, ID, ACTIVE, WRITES, READS}
 use Rattle.rules.specs.Numbers.{badSlot, notOwner, badRow, damaged}
 use Rattle.rules.specs.Memory.{Mem, sizeR, wordsAt}
 use Rattle.rules.specs.Outcome.{Test, storeTests, slotTests, rowTest}
-use Rattle.rules.specs.Exactly.{Line, line, Says, is-equal, is-less, is-most, is-not, is-either, says-append}
+use Rattle.rules.specs.Exactly.{Line, line, Says, Lacks, lacks-append, is-equal, is-less, is-most, is-not, is-either, says-append}
 use Rattle.rules.specs.Terms.{StoreDamaged, is-store-damaged}
 
 module _ {z : Sizes} (m : Mem z) where
@@ -60,6 +61,10 @@ module _ {z : Sizes} (m : Mem z) where
         ),
       )
 
+  -- the numbers from 7 to 14 come later
+  pub slots-lack : (s id k : ℕ) → (6 < k) × (k < 15) → Lacks k (slotLines s id)
+  slots-lack s id k b = (λ e. omega (arith, b .1), (λ e. omega (arith, b .0), (λ e. omega (arith, b .0), (λ e. omega (arith, b .1), tt))))
+
   abbrev pub rowLine : ℕ → Line
   rowLine row =
       -- 6: "row or candidate at R or above"
@@ -71,3 +76,6 @@ module _ {z : Sizes} (m : Mem z) where
 
   pub row-says : (s id row : ℕ) → Says (slotTests m s id ++ rowTest m row ∷ []) (rowLines s id row)
   row-says s id row = says-append (slotTests m s id) _ (slotLines s id) _ (slot-says s id) (is-most (sizeR m) row, refl, refl, tt)
+
+  pub rows-lack : (s id row k : ℕ) → (6 < k) × (k < 15) → Lacks k (rowLines s id row)
+  rows-lack s id row k b = lacks-append k (slotLines s id) (rowLine row ∷ []) (slots-lack s id k b) (λ e. omega (arith, b .0), tt)

@@ -178,6 +178,13 @@ pub is-own : (ws : List Write) (row : ℕ) (o : Option Write) → OwnIs ws row o
 is-own ws row none h = own-beyond ws row h
 is-own ws row (some w) h = rw (h .parts) (own-among (h .before) w (h .after) row (h .ofRow) (h .none))
 
+-- a row has an own entry or it has none
+pub entry-or-none : (ws : List Write) (row : ℕ) (w : Write) → LastEntry ws row w → NoEntry ws row → ⊥
+entry-or-none ws row w i n =
+    let g : some w ≡ none = sym (is-own ws row (some w) i) ∙ is-own ws row none n in
+    let x : _≡_ {A = ℕ} 0 1 = cc in
+    omega arith
+
 -- the cell is recorded already
 abbrev pub Recorded : ℕ → List Rec → Type 0
 Recorded c [] = ⊥
