@@ -34,3 +34,5 @@ pub mod AbortRefuses
 pub mod VacuumRefuses
 pub mod LookupRefuses
 pub mod ReadRefusedWhen
+pub mod WriteRefusedWhen
+pub mod CommitRefusedWhen
