@@ -36,3 +36,5 @@ pub mod LookupRefuses
 pub mod ReadRefusedWhen
 pub mod WriteRefusedWhen
 pub mod CommitRefusedWhen
+pub mod VacuumRefusedWhen
+pub mod LongerWalk
