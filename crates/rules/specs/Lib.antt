@@ -38,3 +38,4 @@ pub mod WriteRefusedWhen
 pub mod CommitRefusedWhen
 pub mod VacuumRefusedWhen
 pub mod LongerWalk
+pub mod OneOutcome
