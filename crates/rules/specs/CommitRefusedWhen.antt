@@ -73,16 +73,16 @@ module _ {z : Sizes} (m : Mem z) (s id : ℕ) where
   cell-of : (c : ℕ) → ((CellOf (sizeN m) c → ⊥) → ⊥) → CellOf (sizeN m) c
   cell-of c n = byBool (isCell (sizeN m) c) (λ e. is-cell (sizeN m) c .yes e) (λ e. absurd (n (is-cell (sizeN m) c .no e)))
 
-  stands : (q : Rec) → NoneOf (recordLines m t q) → Stands q
+  pub stands : (q : Rec) → NoneOf (recordLines m t q) → Stands q
   stands q n = record { cell = cell-of (q .cell) (n .0); agrees = n .1 .0 }
 
-  stood : (q : Rec) → Stands q → NoneOf (recordLines m t q)
+  pub stood : (q : Rec) → Stands q → NoneOf (recordLines m t q)
   stood q h = (λ n. n (h .cell), (h .agrees, tt))
 
   is-zero : (a : ℕ) → (a ≢ 0 → ⊥) → a ≡ 0
   is-zero a n = byEq a 0 (λ e. e) (λ e. absurd (n e))
 
-  is-ready : (w : Write) → NoneOf (baseLines m w) → Ready w
+  pub is-ready : (w : Write) → NoneOf (baseLines m w) → Ready w
   is-ready w n =
       record {
         ofStore = byLe (sizeR m) (w .row) (λ b. absurd (n .0 b)) (λ b. b);
@@ -91,7 +91,7 @@ module _ {z : Sizes} (m : Mem z) (s id : ℕ) where
         unmarked = λ b. is-zero _ (λ e. n .1 .1 .1 .0 (b, e));
       }
 
-  ready-is : (w : Write) → Ready w → NoneOf (baseLines m w)
+  pub ready-is : (w : Write) → Ready w → NoneOf (baseLines m w)
   ready-is w h = (λ b. omega (arith, h .ofStore), (λ e. e (h .headIsBase), (λ b. omega (arith, h .baseOf), (λ q. q .1 (h .unmarked (q .0)), tt))))
 
   -- a number of the lines under "Otherwise validate"

@@ -39,3 +39,5 @@ pub mod CommitRefusedWhen
 pub mod VacuumRefusedWhen
 pub mod LongerWalk
 pub mod OneOutcome
+pub mod OneReply
+pub mod CommitAllOrNothing
