@@ -13,11 +13,11 @@ use Rattle.rules.specs.Slots.{Write, Rec, Slot, emptied}
 use Rattle.rules.specs.Memory.{Mem, sizeR, sizeN, headAt, slotAt, withSlot}
 use Rattle.rules.specs.Outcome.{Outcome, out, refuse}
 use Rattle.rules.specs.Commit.{publishAll, commitOut}
-use Rattle.rules.specs.Exactly.{All, Refuses, NoneOf, Exactly, eachOf, under, inAnswer, refuses-past, refuses-each, refuses-under, refuses-append, none-append, none-each}
+use Rattle.rules.specs.Exactly.{All, all-map, Refuses, NoneOf, Exactly, eachOf, under, inAnswer, refuses-past, refuses-each, refuses-under, refuses-append, none-append, none-each}
 use Rattle.rules.specs.Terms.{CellOf}
 use Rattle.rules.specs.SharedLines.{slotLines}
 use Rattle.rules.specs.CommitRefuses.{recordLines, baseLines, newLines, validLines, commitLines, commit-refuses-exactly}
-use Rattle.rules.specs.CommitRefusedWhen.{all-map, Stands, Ready, HeadOrBase, Validating, FirstUnready, stood, ready-is, commit-refused-8-exactly-when}
+use Rattle.rules.specs.CommitRefusedWhen.{Stands, Ready, HeadOrBase, Validating, FirstUnready, stood, ready-is, commit-refused-8-exactly-when}
 
 module _ {z : Sizes} (m : Mem z) (s id : ℕ) where
   abbrev t : Slot

@@ -14,15 +14,10 @@ use Rattle.rules.specs.Slots.{Write, Rec, Slot}
 use Rattle.rules.specs.Memory.{Mem, sizeR, sizeN, headAt, slotAt}
 use Rattle.rules.specs.Outcome.{isCell}
 use Rattle.rules.specs.Commit.{commitOut}
-use Rattle.rules.specs.Exactly.{All, Line, Refuses, NoneOf, eachOf, FirstOf, Lacks, under, inAnswer, refused-iff, refuses-past, refuses-before, refuses-each, refuses-under, none-append, none-each, lacks-append, lacks-each, lacks-under}
+use Rattle.rules.specs.Exactly.{All, all-map, Line, Refuses, NoneOf, eachOf, FirstOf, Lacks, under, inAnswer, refused-iff, refuses-past, refuses-before, refuses-each, refuses-under, none-append, none-each, lacks-append, lacks-each, lacks-under}
 use Rattle.rules.specs.Terms.{CellOf, is-cell, Conflicts}
 use Rattle.rules.specs.SharedLines.{slotLines, slots-lack}
 use Rattle.rules.specs.CommitRefuses.{recordLines, baseLines, newLines, validLines, commitLines, commit-refuses-exactly}
-
--- a property of every member, said in other words
-pub all-map : {A : Type 0} (P Q : A → Type 0) → ((a : A) → P a → Q a) → (l : List A) → All P l → All Q l
-all-map P Q f [] h = tt
-all-map P Q f (a ∷ l) h = (f a (h .0), all-map P Q f l (h .1))
 
 module _ {z : Sizes} (m : Mem z) (s id : ℕ) where
   abbrev t : Slot

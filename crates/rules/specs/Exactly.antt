@@ -54,6 +54,11 @@ abbrev pub All : {A : Type 0} → (A → Type 0) → List A → Type 0
 All P [] = Unit {0}
 All P (a ∷ l) = P a × All P l
 
+-- a property of every member, said in other words
+pub all-map : {A : Type 0} (P Q : A → Type 0) → ((a : A) → P a → Q a) → (l : List A) → All P l → All Q l
+all-map P Q f [] h = tt
+all-map P Q f (a ∷ l) h = (f a (h .0), all-map P Q f l (h .1))
+
 -- ---- a test decides a condition
 
 pub record Reflects (b : Bool) (P : Type 0) : Type 0 where

@@ -41,3 +41,7 @@ pub mod LongerWalk
 pub mod OneOutcome
 pub mod OneReply
 pub mod CommitAllOrNothing
+pub mod CellLaws
+pub mod Members
+pub mod ChainOnce
+pub mod GivenBack
