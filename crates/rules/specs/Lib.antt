@@ -45,3 +45,5 @@ pub mod CellLaws
 pub mod Members
 pub mod ChainOnce
 pub mod GivenBack
+pub mod Relinked
+pub mod Horizon
