@@ -47,3 +47,4 @@ pub mod ChainOnce
 pub mod GivenBack
 pub mod Relinked
 pub mod Horizon
+pub mod VacuumRemoves
