@@ -48,3 +48,5 @@ pub mod GivenBack
 pub mod Relinked
 pub mod Horizon
 pub mod VacuumRemoves
+pub mod HandedOut
+pub mod AbortUndoes

@@ -68,6 +68,10 @@ module _ {z : Sizes} (m : Mem z) where
   pub is-store-damaged : Reflects (not (fits m (sizeR m) (sizeN m)) || eqb (clock m) 0) StoreDamaged
   is-store-damaged = is-either _ _ (is-not _ (is-fitting (sizeR m) (sizeN m))) (is-equal (clock m) 0)
 
+  -- a store that is not damaged fits
+  pub store-fits : (StoreDamaged → ⊥) → Fitting m (sizeR m) (sizeN m)
+  store-fits n = byBool (fits m (sizeR m) (sizeN m)) (λ e. is-fitting (sizeR m) (sizeN m) .yes e) (λ e. absurd (n (inl (is-fitting (sizeR m) (sizeN m) .no e))))
+
 pub is-cell : (n c : ℕ) → Reflects (isCell n c) (CellOf n c)
 is-cell n c = is-also _ (is-both _ _ (is-nonzero c) (is-most c n)) (λ p. record { low = pos c (p .0); high = p .1 }) (λ p. (λ e. omega (arith, p .low), p .high))
   where

@@ -12,17 +12,16 @@ use Rattle.rules.specs.declared.ReadAnswer.the-variants.{None}
 use Rattle.rules.specs.declared.Answer.{Answer}
 use Rattle.rules.specs.declared.Answer.the-variants.{Vacuumed}
 use Rattle.rules.specs.Sizes.{Sizes, ROWS, CELLS, CLOCK, FREE}
-use Rattle.rules.specs.Cases.{byBool}
 use Rattle.rules.specs.Lists.{keep, fold}
 use Rattle.rules.specs.Versions.{withNext, valueOf, emptyVersion, versionOf, cellAt, versionAt, linkAt}
 use Rattle.rules.specs.Memory.{Mem, sizeR, sizeN, clock, headAt, withCells}
 use Rattle.rules.specs.Chain.{ends, Chain, chained, chain}
 use Rattle.rules.specs.Snapshot.{horizon}
-use Rattle.rules.specs.Outcome.{Outcome, out, fits}
+use Rattle.rules.specs.Outcome.{Outcome, out}
 use Rattle.rules.specs.Abort.{giveBack}
 use Rattle.rules.specs.Vacuum.{reclaimable, relink, reportOf, reports, vacuumOut}
 use Rattle.rules.specs.Exactly.{In, All, all-map, NoneOf, is-not}
-use Rattle.rules.specs.Terms.{Fitting, is-fitting, CellOf}
+use Rattle.rules.specs.Terms.{Fitting, store-fits, CellOf}
 use Rattle.rules.specs.Along.{Along, Way, is-chain}
 use Rattle.rules.specs.CellLaws.{HasCell}
 use Rattle.rules.specs.Members.{Once, all-in, in-all, picks-in, picks-length, picks-once}
@@ -87,7 +86,7 @@ module _ {z : Sizes} (m : Mem z) (row request room : ℕ) (accepted : NoneOf (va
   -- ---- the memory after
 
   fitting : Fitting m (sizeR m) (sizeN m)
-  fitting = byBool (fits m (sizeR m) (sizeN m)) (λ e. is-fitting m (sizeR m) (sizeN m) .yes e) (λ e. absurd (accepted .0 (inl (is-fitting m (sizeR m) (sizeN m) .no e))))
+  fitting = store-fits m (accepted .0)
 
   has-cell : (c : ℕ) → CellOf (sizeN m) c → HasCell (m .cells) c
   has-cell c o = record { low = o .low; high = omega (arith, o .high, fitting .cells) }
