@@ -7,6 +7,7 @@ use mathlib.Core.Path.{_≡_, refl, sym, ap, _∙_, subst}
 use mathlib.Core.Logic.{_≢_, _⊎_, inl, inr}
 use native.Mathlib.Omega.{arith}
 use lib.ListN.{length, getD}
+use lib.Seq.{getD-set-same}
 use lib.Dec.{eqb}
 use borrow.Author.Tests.{eq-eqb, ne-eqb}
 use Rattle.rules.specs.declared.Version.{Version}
@@ -18,14 +19,14 @@ use Rattle.rules.specs.Cases.{byBool, byEq, byLe}
 use Rattle.rules.specs.Versions.{emptyVersion, unlocked, versionOf, cellAt, versionAt, linkAt, putCell, putVersion}
 use Rattle.rules.specs.Slots.{Write, Slot, emptied}
 use Rattle.rules.specs.Memory.{Mem, sizeR, sizeN, free, headAt, slotAt, withCells, withSlot}
-use Rattle.rules.specs.Outcome.{Outcome, out}
+use Rattle.rules.specs.Outcome.{Outcome, out, isCell}
 use Rattle.rules.specs.Abort.{unlockBase, news, giveBack, abortOut}
-use Rattle.rules.specs.Exactly.{In, All, all-map, NoneOf, Reflects, is-equal, is-nonzero, is-both, holds-true, fails-false, none-append, none-each}
+use Rattle.rules.specs.Exactly.{In, All, all-map, NoneOf, eachOf, Reflects, is-equal, is-nonzero, is-both, holds-true, fails-false, none-append, none-each}
 use Rattle.rules.specs.Terms.{Fitting, store-fits, CellOf, is-cell}
 use Rattle.rules.specs.Along.{positive}
 use Rattle.rules.specs.CellLaws.{HasCell, length-put, put-on, put-off, put-link, put-else}
 use Rattle.rules.specs.Members.{Once, all-in, in-all}
-use Rattle.rules.specs.GivenBack.{giveAll, give-all-rows, give-all-else, give-all-cleared, give-all-meta}
+use Rattle.rules.specs.GivenBack.{giveAll, give-all-rows, give-all-slots, give-all-else, give-all-cleared, give-all-meta}
 use Rattle.rules.specs.HandedOut.{FreeList, free-agree, give-all-in-front}
 use Rattle.rules.specs.SharedLines.{slotLines}
 use Rattle.rules.specs.AbortRefuses.{undoLines, abortLines, aborted, abort-refuses-exactly}
@@ -122,3 +123,77 @@ module _ (id : ℕ) where
   unfolding fold
   unlock-all-links [] cs c h = refl
   unlock-all-links (w ∷ ws) cs c h = unlock-all-links ws (unlockBase id w cs) c (all-map (λ b. b ≤ length cs) (λ b. b ≤ length (unlockBase id w cs)) (λ x q. rw (unlock-length w cs) q) (bases ws) (h .1)) ∙ unlock-links w cs c (h .0)
+
+-- ---- the call
+
+module _ {z : Sizes} (m : Mem z) (s id : ℕ) (accepted : NoneOf (abortLines m s id)) where
+  abbrev ws : List Write
+  ws = slotAt m s .writes
+
+  abbrev after : Mem z
+  after = abortOut m s id .after
+
+  abbrev unlockedMem : Mem z
+  unlockedMem = withCells m (fold (unlockBase id) ws (m .cells))
+
+  -- exactly 01's memory
+  pub abort-leaves-exactly : abortOut m s id ≡ out Done [] (withSlot (giveAll (news ws) unlockedMem) s (emptied z))
+  abort-leaves-exactly = abort-refuses-exactly m s id .otherwise accepted
+
+  after-is : after ≡ withSlot (giveAll (news ws) unlockedMem) s (emptied z)
+  after-is = ap (λ (o : Outcome z Answer ℕ). o .after) abort-leaves-exactly
+
+  fitting : Fitting m (sizeR m) (sizeN m)
+  fitting = store-fits m (accepted .0)
+
+  sound : All (λ w. NoneOf (undoLines m w)) ws
+  sound = none-each (undoLines m) ws .0 (none-append (slotLines m s id) (eachOf (undoLines m) ws) .0 accepted .1)
+
+  bases-inside : (l : List Write) → All (λ w. NoneOf (undoLines m w)) l → All (λ b. b ≤ length (m .cells)) (bases l)
+  bases-inside [] h = tt
+  bases-inside (w ∷ l) h = (byLe (w .base) (sizeN m) (λ b. omega (arith, fitting .cells)) (λ b. absurd (h .0 .0 b)), bases-inside l (h .1))
+
+  news-inside : (l : List Write) → All (λ w. NoneOf (undoLines m w)) l → All (HasCell (m .cells)) (news l)
+  news-inside [] h = tt
+  news-inside (w ∷ l) h = (
+    byBool (isCell (sizeN m) (w .new))
+        (λ e. let o = is-cell (sizeN m) (w .new) .yes e in record { low = o .low; high = omega (arith, o .high, fitting .cells) })
+        (λ e. absurd (h .0 .1 .0 (is-cell (sizeN m) (w .new) .no e))),
+    news-inside l (h .1),
+  )
+
+  has-news : All (HasCell (unlockedMem .cells)) (news ws)
+  has-news = all-map (HasCell (m .cells)) (HasCell (unlockedMem .cells)) (λ x q. record { low = q .low; high = rw (unlock-all-length id ws (m .cells)) (q .high) }) (news ws) (news-inside ws sound)
+
+  lows : All (λ c. 1 ≤ c) (news ws)
+  lows = all-map (HasCell (m .cells)) (λ c. 1 ≤ c) (λ x q. q .low) (news ws) (news-inside ws sound)
+
+  after-cell : (c : ℕ) → (In c (news ws) → ⊥) → cellAt (after .cells) c ≡ cellAt (unlockedMem .cells) c
+  after-cell c n = rw after-is (give-all-else (news ws) unlockedMem lows c n)
+
+  -- each base whose owner is this id is unlocked, the rest of its version kept
+  pub abort-unlocks-each-base-it-owns : (c : ℕ) → (In c (news ws) → ⊥) → In c (bases ws) → Owned id (m .cells) c → versionAt (after .cells) c ≡ unlocked (versionAt (m .cells) c)
+  abort-unlocks-each-base-it-owns c n i o = ap versionOf (after-cell c n) ∙ unlock-all-on id ws (m .cells) c i (all-in (λ b. b ≤ length (m .cells)) (bases ws) (bases-inside ws sound) c i) o
+
+  -- and no other: every other cell that is not given back is as it was
+  pub abort-unlocks-no-other : (c : ℕ) → (In c (news ws) → ⊥) → (In c (bases ws) → Owned id (m .cells) c → ⊥) → cellAt (after .cells) c ≡ cellAt (m .cells) c
+  abort-unlocks-no-other c n e = after-cell c n ∙ unlock-all-else id ws (m .cells) c e
+
+  -- the cells of the write set are cleared
+  pub abort-clears-its-cells : (c : ℕ) → In c (news ws) → versionAt (after .cells) c ≡ emptyVersion
+  abort-clears-its-cells c i = rw after-is (give-all-cleared (news ws) unlockedMem has-news c i)
+
+  -- "give cells back in write order": the last is the next handed out, then the one before it, and so on to the old free list
+  pub abort-gives-cells-back-in-write-order : (l : List ℕ) → FreeList m l → Once (news ws) → ((c : ℕ) → In c (news ws) → In c l → ⊥) → FreeList after (reverseAux (news ws) l)
+  abort-gives-cells-back-in-write-order l f o n =
+      rw after-is
+      (give-all-in-front (news ws) unlockedMem l (omega (arith, fitting .metas)) has-news o n
+      (free-agree (m .cells) (unlockedMem .cells) l (free m) (in-all (λ x. linkAt (m .cells) x ≡ linkAt (unlockedMem .cells) x) l (λ x i. sym (unlock-all-links id ws (m .cells) x (bases-inside ws sound)))) f))
+
+  -- heads stay, and R, N and the clock
+  pub abort-keeps-heads-and-clock : (after .rows ≡ m .rows) × ((j : ℕ) → j ≢ FREE → getD (after .meta) j 0 ≡ getD (m .meta) j 0)
+  abort-keeps-heads-and-clock = (rw after-is (give-all-rows (news ws) unlockedMem), λ j n. rw after-is (give-all-meta (news ws) unlockedMem j n))
+
+  -- "empty the slot"
+  pub abort-empties-the-slot : s < length (m .slots) → getD (after .slots) s [] ≡ emptied z
+  abort-empties-the-slot b = rw (after-is, give-all-slots (news ws) unlockedMem) (getD-set-same (m .slots) s (emptied z) [] b)
