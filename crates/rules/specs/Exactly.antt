@@ -241,6 +241,10 @@ unfolding guard
 guard-append r [] l′ a = refl
 guard-append r (t ∷ l) l′ a = rw (guard-append r l l′ a)
 
+-- an answer that is no refusal: no line applies
+pub accepted-none : {z : Sizes} {A B : Type 0} (T : Told A) (m : Mem z) (o done : Outcome z A B) (l : List Line) → Exactly T m o done l → ((k x : ℕ) → o .answer ≡ T .tell k x → ⊥) → NoneOf l
+accepted-none {z} {A} {B} T m o done l h n = ⊎-elim (λ y. y) (λ q. absurd (n (q .0) (q .1) (ap (λ (y : Outcome z A B). y .answer) (h .when (q .0) (q .1) (q .2))))) (h .decided)
+
 -- the answer tells k and x if and only if the table says so
 pub refused-iff : {z : Sizes} {A B : Type 0} (T : Told A) (m : Mem z) (o done : Outcome z A B) (l : List Line) → Exactly T m o done l → (k x : ℕ) → (o .answer ≡ T .tell k x) ↔ Refuses l k x
 refused-iff T m o done l h k x = (h .only k x, λ r. ap (λ (y : Outcome _ _ _). y .answer) (h .when k x r))

@@ -50,3 +50,4 @@ pub mod Horizon
 pub mod VacuumRemoves
 pub mod HandedOut
 pub mod AbortUndoes
+pub mod NotEmpty
