@@ -2,7 +2,7 @@
 -- 0, and one that is lent damaged.
 use Prim.Native.Nat.{ℕ, _+_, _*_, _≤_, _<_}
 use mathlib.Core.Bool.{true}
-use mathlib.Core.List.{List, [], _∷_, _++_}
+use mathlib.Core.List.{List, [], _∷_, _++_, reverseAux}
 use mathlib.Core.Option.{Option, none, some}
 use mathlib.Core.Path.{_≡_, refl, sym, ap, _∙_, subst}
 use mathlib.Core.Logic.{_≢_, _⊎_, inl, inr}
@@ -14,14 +14,14 @@ use Rattle.rules.specs.declared.Answer.{Answer}
 use Rattle.rules.specs.declared.Answer.the-variants.{Done, Begun, Wrote, Vacuumed, Listed, Refused}
 use Rattle.rules.specs.Sizes.{Sizes, base, lastId, WRITES}
 use Rattle.rules.specs.Lists.{has, keep, first, last, fold, least, greatest, from}
-use Rattle.rules.specs.Versions.{tx, at, versionOf, wordsOf, cellAt, versionAt, linkAt, putCell}
+use Rattle.rules.specs.Versions.{tx, at, versionOf, wordsOf, cellAt, versionAt, linkAt, unlocked, putCell}
 use Rattle.rules.specs.Slots.{words, threes, slotOf, push, opened}
 use Rattle.rules.specs.Slots as S
 use Rattle.rules.specs.Memory.{Mem, mem, sizeR, sizeN, free, headAt, wordsAt, slotAt, withSlot}
 use Rattle.rules.specs.Visible.{creatorVisible, visible, conflict}
 use Rattle.rules.specs.Chain.{chain, look}
 use Rattle.rules.specs.Snapshot.{occupied, vacant, horizonOf}
-use Rattle.rules.specs.Outcome.{guard, each, fits, storeTests, slotTests}
+use Rattle.rules.specs.Outcome.{out, refuse, guard, each, fits, storeTests, slotTests}
 use Rattle.rules.specs.Create.{freshCells, created, createOut}
 use Rattle.rules.specs.Begin.{idsWith, beginWords, beginOut}
 use Rattle.rules.specs.Read.{own, answerAt, recorded, sightOf, ownSight, readRow, readEnd, readOut}
@@ -31,9 +31,23 @@ use Rattle.rules.specs.Abort.{news, unlockBase, giveBack, abortOut}
 use Rattle.rules.specs.Vacuum.{reclaimable, relink, reports, swept, vacuumNow, vacuumOut}
 use Rattle.rules.specs.Lookup.{isKey, listRow, findRow, lookupEnd, rowsToRead, lookupOut, lookupAllOut}
 use Rattle.rules.specs.Run.{Call, create, begin, read, write, commit, abort, vacuum, lookup, lookupAll, replyNumber, step, run}
-use Rattle.rules.specs.Exactly.{NoneOf, inAnswer, accepted-none, not-refused}
+use Rattle.rules.specs.Exactly.{In, NoneOf, inAnswer, inRead, accepted-none, not-refused, none-append}
 use Rattle.rules.specs.CommitRefuses.{commitLines, commit-refuses-exactly}
-use Rattle.rules.specs.LongerWalk.{lent}
+use Rattle.rules.specs.CommitRefusedWhen.{Validating, commit-refused-8-exactly-when}
+use Rattle.rules.specs.CommitAllOrNothing.{published, commit-accepted-when, commit-accepted-leaves-exactly, commit-refused-for-its-last-write, commit-refused-for-damage-in-its-last-entry}
+use Rattle.rules.specs.RefusedChangesNothing.{refused-call-changes-nothing}
+use Rattle.rules.specs.ReadRefuses.{sightLinesAt, read-refuses-exactly}
+use Rattle.rules.specs.ReadRefusedWhen.{read-refused-10-when-the-chain-is-longer}
+use Rattle.rules.specs.WriteRefuses.{write-refuses-exactly}
+use Rattle.rules.specs.AbortRefuses.{abortLines, abort-refuses-exactly}
+use Rattle.rules.specs.VacuumRefuses.{vacuum-refuses-exactly}
+use Rattle.rules.specs.VacuumRemoves.{Removed, vacuum-removes-exactly-the-reclaimable, vacuum-of-an-empty-row}
+use Rattle.rules.specs.AbortUndoes.{bases, abort-unlocks-each-base-it-owns, abort-gives-cells-back-in-write-order}
+use Rattle.rules.specs.HandedOut.{FreeList, cells-are-handed-out-in-order, a-cell-given-back-is-the-next-handed-out}
+use Rattle.rules.specs.LongerWalk.{lent, Same, Turned, longer-walk-changes-no-answer, longer-walk-turns-10-into}
+use Rattle.rules.specs.Terms.{is-fitting}
+use Rattle.rules.specs.Along.{Way}
+use Rattle.rules.specs.SharedLines.{slotLines, rowLine, rowLines}
 
 abbrev zeroMem : Mem base
 zeroMem = mem (replicate 4 0) (replicate 2 0) (replicate 4 (replicate 8 0)) (replicate (base .slots) (replicate (base .width) 0))
@@ -146,3 +160,121 @@ computed =
       backWrites = refl;
       idleMeta = refl;
     }
+
+-- ---- each law put to its store
+
+pub a-refused-call-changes-nothing : step begin zeroMem .after ≡ zeroMem
+a-refused-call-changes-nothing = refused-call-changes-nothing begin zeroMem (omega (arith, computed .refusedBegin))
+
+pub a-commit-is-accepted : NoneOf (commitLines writing 0 1)
+a-commit-is-accepted = commit-accepted-when writing 0 1 (computed .commits)
+
+pub a-commit-leaves-exactly : commitOut writing 0 1 ≡ published writing 0 1
+a-commit-leaves-exactly = commit-accepted-leaves-exactly writing 0 1 a-commit-is-accepted
+
+-- the second write is overtaken: the first is not published either
+pub a-commit-is-refused-for-its-last-write : commitOut overtaken 0 1 ≡ refuse overtaken 8 1
+a-commit-is-refused-for-its-last-write =
+    let h = commit-refused-8-exactly-when overtaken 0 1 1 .0 (computed .overtakes) in
+    let f = computed .overtakenHeads in
+    commit-refused-for-its-last-write overtaken 0 1 (h .0) (S.write 0 0 1 ∷ []) (S.write 1 0 2) (computed .overtakenWrites)
+    (rw (computed .overtakenRecs) tt)
+    (record { ofStore = omega (arith, computed .overtakenRows); headIsBase = f .0; baseOf = omega arith; unmarked = λ n. absurd (n refl) }, tt)
+    (omega (arith, computed .overtakenRows))
+    (inl (λ e. omega (arith, f .1, e)))
+
+-- the new cell of the second entry is 0: the first is not published either
+pub a-commit-is-refused-for-damage-in-its-last-entry : commitOut harmed 0 1 ≡ refuse harmed 15 0
+a-commit-is-refused-for-damage-in-its-last-entry =
+    let n = accepted-none inRead harmed _ _ _ (read-refuses-exactly harmed 0 1 0) (λ k x e. not-key k x (sym (computed .harmedReads) ∙ e)) in
+    let r = none-append (slotLines harmed 0 1) (rowLine harmed 0 ∷ []) .0 (none-append (rowLines harmed 0 1 0) (sightLinesAt harmed 0 1 0) .0 n .0) in
+    let f = computed .harmedHeads in
+    let g = computed .harmedSizes in
+    let v : Validating harmed 0 1 = record { earlier = r .0; writes = λ e. not-empty (S.write 0 0 1) (S.write 1 0 0 ∷ []) (sym (computed .harmedWrites) ∙ e) } in
+    commit-refused-for-damage-in-its-last-entry harmed 0 1 v (S.write 0 0 1 ∷ []) (S.write 1 0 0) (computed .harmedWrites)
+    (rw (computed .harmedRecs) tt)
+    (rw (computed .harmedWrites) (
+      record { ofStore = omega (arith, g .0); headIsBase = f .0; baseOf = omega arith; unmarked = λ n. absurd (n refl) },
+      (record { ofStore = omega (arith, g .0); headIsBase = f .1; baseOf = omega arith; unmarked = λ n. absurd (n refl) }, tt),
+    ))
+    (record { low = omega arith; high = omega (arith, g .1) }, tt)
+    (λ c. omega (arith, c .low))
+  where
+    not-key : (k x : ℕ) → Key 70 ≡ ReadAnswer.Refused k x → ⊥
+    not-key k x e = let q : _≡_ {A = ℕ} 0 1 = cc in omega arith
+
+    not-empty : (w : S.Write) (l : List S.Write) → w ∷ l ≡ [] → ⊥
+    not-empty w l e = let q : _≡_ {A = ℕ} 0 1 = cc in omega arith
+
+-- one version is removed
+pub a-vacuum-removes : Removed updated 0 lastId 1
+a-vacuum-removes =
+    vacuum-removes-exactly-the-reclaimable updated 0 lastId 1
+    (accepted-none inAnswer updated _ _ _ (vacuum-refuses-exactly updated 0 lastId 1) (λ k x e. not-refused (Vacuumed 1 (Key 75)) refl k x (sym (computed .sweeps) ∙ e)))
+    (λ e. omega (arith, computed .live, e))
+
+pub a-vacuum-of-an-empty-row : vacuumOut updated 1 lastId 0 ≡ out (Vacuumed 0 None) [] updated
+a-vacuum-of-an-empty-row =
+    vacuum-of-an-empty-row updated 1 lastId 0
+    (accepted-none inAnswer updated _ _ _ (vacuum-refuses-exactly updated 1 lastId 0) (λ k x e. not-refused (Vacuumed 0 None) refl k x (sym (computed .sweepsNone) ∙ e)))
+    (computed .bare)
+
+an-abort-is-accepted : NoneOf (abortLines locking 0 2)
+an-abort-is-accepted = accepted-none inAnswer locking _ _ _ (abort-refuses-exactly locking 0 2) (λ k x e. not-refused Done refl k x (sym (computed .aborts) ∙ e))
+
+-- the base is unlocked
+pub an-abort-unlocks : versionAt (abortOut locking 0 2 .after .cells) 1 ≡ unlocked (versionAt (locking .cells) 1)
+an-abort-unlocks =
+    abort-unlocks-each-base-it-owns locking 0 2 an-abort-is-accepted 1
+    (λ i. not-in (subst (λ (l : List S.Write). In 1 (news l)) (computed .lockingWrites) i))
+    (subst (λ (l : List S.Write). In 1 (bases l)) (sym (computed .lockingWrites)) (inl refl))
+    (record { some = λ e. omega (arith, e); owner = computed .lockingOwner })
+  where
+    not-in : In {A = ℕ} 1 (2 ∷ []) → ⊥
+    not-in (inl e) = omega (arith, e)
+    not-in (inr i) = i
+
+-- the cell is the next handed out again
+pub an-abort-gives-back : FreeList (abortOut locking 0 2 .after) (2 ∷ 3 ∷ 4 ∷ [])
+an-abort-gives-back =
+    let l = computed .lockingLinks in
+    subst (λ (w : List S.Write). FreeList (abortOut locking 0 2 .after) (reverseAux (news w) (3 ∷ 4 ∷ []))) (computed .lockingWrites)
+    (abort-gives-cells-back-in-write-order locking 0 2 an-abort-is-accepted (3 ∷ 4 ∷ [])
+    (computed .lockingFree, ((λ e. omega (arith, e)), (l .0, ((λ e. omega (arith, e)), l .1))))
+    (rw (computed .lockingWrites) ((λ i. i), tt))
+    (λ c i j. apart c (subst (λ (w : List S.Write). In c (news w)) (computed .lockingWrites) i) j))
+  where
+    apart : (c : ℕ) → In c (2 ∷ []) → In c (3 ∷ 4 ∷ []) → ⊥
+    apart c (inl e) (inl f) = omega (arith, e, f)
+    apart c (inl e) (inr (inl f)) = omega (arith, e, f)
+    apart c (inl e) (inr (inr f)) = f
+    apart c (inr i) j = i
+
+pub a-creation-hands-out-in-order : FreeList (created zeroMem 4 2) (from 1 4)
+a-creation-hands-out-in-order = cells-are-handed-out-in-order zeroMem 4 2 (is-fitting zeroMem 2 4 .yes (computed .fitsCreation))
+
+pub a-cell-given-back-is-handed-out : writeOut (giveBack 2 idle) 0 1 0 (some 5) .answer ≡ Wrote (at 2)
+a-cell-given-back-is-handed-out =
+    a-cell-given-back-is-the-next-handed-out idle 2 0 1 0 (some 5) (omega (arith, computed .idleMeta))
+    (accepted-none inAnswer (giveBack 2 idle) _ _ _ (write-refuses-exactly (giveBack 2 idle) 0 1 0 (some 5)) (λ k x e. not-refused (Wrote (at 2)) refl k x (sym (computed .writesBack) ∙ e)))
+    (rw (computed .backWrites) tt)
+
+-- the chain is 2, 1: longer than one step, and the first of it is not seen
+pub a-chain-is-too-long : readOut (lent 1 behind) 0 2 0 .answer ≡ ReadAnswer.Refused 10 0
+a-chain-is-too-long =
+    let c = computed .behindChain in
+    let w : Way (sizeN behind) (versionAt (behind .cells)) (headAt behind 0) (2 ∷ 1 ∷ []) 0 =
+    record { along = (c .0, (c .1, c .2)); cells = (record { low = omega arith; high = omega (arith, computed .behindSize) }, (record { low = omega arith; high = omega (arith, computed .behindSize) }, tt)) } in
+    let i = read-refused-10-when-the-chain-is-longer (lent 1 behind) 0 2 0 (2 ∷ 1 ∷ []) w in
+    i .1 (i .0 (computed .oneStep))
+
+pub a-longer-walk-changes-nothing : Same (readOut (lent 3 behind) 0 2 0) (readOut (lent 2 behind) 0 2 0)
+a-longer-walk-changes-nothing =
+    longer-walk-changes-no-answer behind 0 2 0 2 3 (omega arith)
+    (λ e.
+    let g : Key 70 ≡ ReadAnswer.Refused 10 0 = sym (computed .twoSteps) ∙ e in
+    let q : _≡_ {A = ℕ} 0 1 = cc in
+    omega arith)
+
+pub a-10-turns-into-an-answer : Turned behind 0 2 0 1 2 (omega arith) (readOut (lent 2 behind) 0 2 0 .answer) × (readOut (lent 2 behind) 0 2 0 .answer ≡ Key 70)
+a-10-turns-into-an-answer = (longer-walk-turns-10-into behind 0 2 0 1 2 (omega arith) (computed .oneStep), computed .twoSteps)
