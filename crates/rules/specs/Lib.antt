@@ -51,3 +51,4 @@ pub mod VacuumRemoves
 pub mod HandedOut
 pub mod AbortUndoes
 pub mod NotEmpty
+pub mod LookupRefusedWhen

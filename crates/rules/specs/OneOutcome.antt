@@ -225,7 +225,7 @@ module _ {z : Sizes} (m : Mem z) where
   -- ---- lookup: each row read in its turn, the records of the rows before it standing already
 
   module _ (s key room : ℕ) where
-    abbrev RowReads : ℕ → List Rec → ℕ → List Rec → Type 0
+    abbrev pub RowReads : ℕ → List Rec → ℕ → List Rec → Type 0
     RowReads r recs = Reads z (sizeN m) (versionAt (m .cells)) (headAt m r) (slotAt m s) (slotAt m s .recs ++ recs) r
 
     -- reading the rows of l one after the other, from `recs` and `rows` on, comes to these records and these rows listed
@@ -235,14 +235,14 @@ module _ {z : Sizes} (m : Mem z) where
         (c : ℕ) × (new : List Rec) × RowReads r recs c new
         × ((HoldsKey (versionAt (m .cells)) c key × Lists (recs ++ new) (rows ++ (r ∷ [])) l recs′ rows′) ⊎ ((HoldsKey (versionAt (m .cells)) c key → ⊥) × Lists (recs ++ new) rows l recs′ rows′))
 
-    abbrev linesOf : List Rec → List ℕ → List ℕ → List Line
+    abbrev pub linesOf : List Rec → List ℕ → List ℕ → List Line
     linesOf = findLines m (slotAt m s) key room
 
-    abbrev sightAt : ℕ → List Rec → Sight
+    abbrev pub sightAt : ℕ → List Rec → Sight
     sightAt r recs = readAt m (slotAt m s) (slotAt m s .recs ++ recs) r
 
     -- the lines of the rows after r
-    abbrev restLines : ℕ → List Rec → List ℕ → List ℕ → Sight → List Line
+    abbrev pub restLines : ℕ → List Rec → List ℕ → List ℕ → Sight → List Line
     restLines r recs rows l g = linesOf (recsAfter m (slotAt m s) key room recs g) (rowsAfter m (slotAt m s) key room r rows g) l
 
     abbrev foldOf : List ℕ → Found → Found

@@ -1,0 +1,189 @@
+-- A lookup's refusals, each alone: 6 names the first candidate at R or above; and "lookup stops at the first trouble in row order, 14
+-- last within a row".
+use Prim.Native.Nat.{ℕ, _≤_, _<_}
+use mathlib.Core.List.{List, [], _∷_, _++_}
+use mathlib.Core.Path.{_≡_, refl, sym, ap, _∙_, subst}
+use mathlib.Core.Logic.{_≢_, _↔_, Iff·trans, Iff·and, _⊎_, inl, inr, ⊎-elim}
+use native.Mathlib.Omega.{arith}
+use lib.ListN.{length}
+use Rattle.rules.specs.declared.Answer.{Answer}
+use Rattle.rules.specs.Sizes.{Sizes}
+use Rattle.rules.specs.Numbers.{badRow, chainTooLong, readSetFull, resultFull, damaged}
+use Rattle.rules.specs.Cases.{byBool, byLe}
+use Rattle.rules.specs.Lists.{from}
+use Rattle.rules.specs.Versions.{versionAt}
+use Rattle.rules.specs.Slots.{Write, Rec, Slot}
+use Rattle.rules.specs.Memory.{Mem, sizeR, sizeN, headAt, slotAt}
+use Rattle.rules.specs.Read.{answerAt, Sight, blocked, sees, readAt}
+use Rattle.rules.specs.Lookup.{isKey, ownRows, rowsToRead, lookupOut, lookupAllOut}
+use Rattle.rules.specs.Exactly.{All, all-map, Line, Refuses, NoneOf, eachOf, FirstOf, Lacks, inAnswer, refused-iff, refuses-append, refuses-past, refuses-before, refuses-each, none-append, none-each, none-refuses, lacks-append, lacks-each, holds-true, fails-false}
+use Rattle.rules.specs.SharedLines.{slotLines, slots-lack}
+use Rattle.rules.specs.ReadRefuses.{SightIs, sight-is, reads-is}
+use Rattle.rules.specs.LookupRefuses.{HoldsKey, is-key, RowHolds, sightLinesOf, fullLine, findLines, candidateLines, ownRowLines, lookupLines, lookup-refuses-exactly, lookupAllLines, lookup-all-refuses-exactly}
+use Rattle.rules.specs.OneOutcome.{RowReads, Lists, sightAt, restLines, linesOf}
+
+-- ---- 6
+
+module _ {z : Sizes} (m : Mem z) (s id key : ℕ) (cands : List ℕ) (room : ℕ) where
+  find-lacks-6 : (l : List ℕ) (recs : List Rec) (rows : List ℕ) → Lacks badRow (findLines m (slotAt m s) key room recs rows l)
+  find-lacks-6 [] recs rows = tt
+  find-lacks-6 (r ∷ l) recs rows = (λ e. omega arith, (λ e. omega arith, (λ e. omega arith, (λ e. omega arith, (λ e. omega arith, find-lacks-6 l _ _)))))
+
+  -- x is the first candidate at R or above, in the order of the list
+  pub record FirstAbove (x : ℕ) : Type 0 where
+    pub before : List ℕ
+    pub after : List ℕ
+    pub parts : cands ≡ before ++ x ∷ after
+    pub below : All (λ c. c < sizeR m) before
+    pub above : sizeR m ≤ x
+
+  above-of : (x : ℕ) → FirstOf badRow x (candidateLines m) cands ↔ FirstAbove x
+  above-of x = (λ q. to q (q .refuses), from-above)
+    where
+      to : (q : FirstOf badRow x (candidateLines m) cands) → Refuses (candidateLines m (q .member)) badRow x → FirstAbove x
+      to q (inl r) =
+          record {
+            before = q .before;
+            after = q .after;
+            parts = rw (r .2) (q .parts);
+            below = all-map _ (λ c. c < sizeR m) (λ c n. byLe (sizeR m) c (λ b. absurd (n .0 b)) (λ b. b)) (q .before) (q .fine);
+            above = rw (r .2) (r .0);
+          }
+      to q (inr r) = absurd (r .1)
+
+      from-above : FirstAbove x → FirstOf badRow x (candidateLines m) cands
+      from-above q =
+          record {
+            before = q .before;
+            member = x;
+            after = q .after;
+            parts = q .parts;
+            fine = all-map (λ c. c < sizeR m) _ (λ c b. (λ a. omega (arith, b), tt)) (q .before) (q .below);
+            refuses = inl (q .above, refl, refl);
+          }
+
+  -- 6: "row or candidate at R or above", "first such"
+  pub lookup-refused-6-names-the-first-such-candidate : (x : ℕ) → (lookupOut m s id key cands room .answer ≡ Answer.Refused badRow x) ↔ (NoneOf (slotLines m s id) × FirstAbove x)
+  lookup-refused-6-names-the-first-such-candidate x =
+      let rows = findLines m (slotAt m s) key room [] [] (rowsToRead m (slotAt m s .writes) cands) in
+      let late = eachOf (ownRowLines m) (ownRows (slotAt m s .writes)) in
+      Iff·trans (refused-iff inAnswer m _ _ _ (lookup-refuses-exactly m s id key cands room) badRow x)
+      (Iff·trans
+      (refuses-before badRow x (slotLines m s id ++ eachOf (candidateLines m) cands) (rows ++ late)
+      (lacks-append badRow rows late (find-lacks-6 (rowsToRead m (slotAt m s .writes) cands) [] []) (lacks-each badRow (ownRowLines m) (λ r. (λ e. omega arith, tt)) (ownRows (slotAt m s .writes)))))
+      (Iff·trans
+      (refuses-past badRow x (slotLines m s id) (eachOf (candidateLines m) cands) (λ e. omega arith, (λ e. omega arith, (λ e. omega arith, (λ e. omega arith, tt)))))
+      (Iff·and (λ e. e, λ e. e) (Iff·trans (refuses-each badRow x (candidateLines m) cands) (above-of x)))))
+
+-- ---- the first trouble
+
+module _ {z : Sizes} (m : Mem z) (s key room : ℕ) where
+  abbrev lines : List Rec → List ℕ → List ℕ → List Line
+  lines = findLines m (slotAt m s) key room
+
+  -- row r, the first whose read refuses or whose place in the buffer is missing; `recs` and `rows` come from the rows before it, which
+  -- are read without trouble
+  pub record FirstTrouble (recs₀ : List Rec) (rows₀ l : List ℕ) (k x : ℕ) : Type 0 where
+    pub before : List ℕ
+    pub row : ℕ
+    pub after : List ℕ
+    pub parts : l ≡ before ++ row ∷ after
+    pub recs : List Rec
+    pub rows : List ℕ
+    pub read : Lists m s key room recs₀ rows₀ before recs rows
+    pub fine : NoneOf (lines recs₀ rows₀ before)
+    pub trouble : Refuses (sightLinesOf m (slotAt m s) key room row recs ++ fullLine m (slotAt m s) key room row recs rows ∷ []) k x
+
+  -- what the read of row r adds
+  abbrev sight : ℕ → List Rec → List Line
+  sight r recs = sightLinesOf m (slotAt m s) key room r recs
+
+  abbrev full : ℕ → List Rec → List ℕ → Line
+  full r recs rows = fullLine m (slotAt m s) key room r recs rows
+
+  record Adds (r : ℕ) (recs : List Rec) (rows : List ℕ) : Type 1 where
+    recs′ : List Rec
+    rows′ : List ℕ
+    -- the lines of the rows after r
+    rest : (l : List ℕ) → restLines m s key room r recs rows l (sightAt m s key room r recs) ≡ lines recs′ rows′ l
+    -- and what they come to
+    to : (l : List ℕ) (a : List Rec) (b : List ℕ) → Lists m s key room recs′ rows′ l a b → Lists m s key room recs rows (r ∷ l) a b
+    back : (l : List ℕ) (a : List Rec) (b : List ℕ) → Lists m s key room recs rows (r ∷ l) a b → Lists m s key room recs′ rows′ l a b
+
+  -- a row's read finds one thing
+  one-read : (r : ℕ) (recs : List Rec) (c c′ : ℕ) (new new′ : List Rec) → NoneOf (sight r recs) → RowReads m s key room r recs c new → RowReads m s key room r recs c′ new′ → (c ≡ c′) × (new ≡ new′)
+  one-read r recs c c′ new new′ n p q =
+      let f = reads-is z (sizeN m) (versionAt (m .cells)) (headAt m r) (slotAt m s) (slotAt m s .recs ++ recs) r in
+      let g : sees c new ≡ sees c′ new′ = sym (f c new p n) ∙ f c′ new′ q n in
+      (cc, cc)
+
+  adds-to : (r : ℕ) (recs : List Rec) (rows : List ℕ) → NoneOf (sight r recs) → (g : Sight) → sightAt m s key room r recs ≡ g → SightIs z (sizeN m) (versionAt (m .cells)) (headAt m r) (slotAt m s) (slotAt m s .recs ++ recs) r g → Adds r recs rows
+  adds-to r recs rows n (blocked k x) e i = absurd (none-refuses (sight r recs) k x n i)
+  adds-to r recs rows n (sees c new) e i = byBool (isKey key (answerAt (versionAt (m .cells)) c))
+      (λ b.
+      let hk = is-key (versionAt (m .cells)) c key .yes b in
+      record {
+        recs′ = recs ++ new;
+        rows′ = rows ++ (r ∷ []);
+        rest = λ l. ap (λ (y : Sight). restLines m s key room r recs rows l y) e ∙ rw b;
+        to = λ l a d q. (c, new, i .1, inl (hk, q));
+        back = λ l a d q.
+            let o = one-read r recs c (q .0) new (q .1) n (i .1) (q .2) in
+            ⊎-elim
+            (λ h. subst (λ (y : List Rec). Lists m s key room (recs ++ y) (rows ++ (r ∷ [])) l a d) (sym (o .1)) (h .1))
+            (λ h. absurd (h .0 (subst (λ (y : ℕ). HoldsKey (versionAt (m .cells)) y key) (o .0) hk)))
+            (q .3);
+      })
+      (λ b.
+      let hk = is-key (versionAt (m .cells)) c key .no b in
+      record {
+        recs′ = recs ++ new;
+        rows′ = rows;
+        rest = λ l. ap (λ (y : Sight). restLines m s key room r recs rows l y) e ∙ rw b;
+        to = λ l a d q. (c, new, i .1, inr (hk, q));
+        back = λ l a d q.
+            let o = one-read r recs c (q .0) new (q .1) n (i .1) (q .2) in
+            ⊎-elim
+            (λ h. absurd (hk (subst (λ (y : ℕ). HoldsKey (versionAt (m .cells)) y key) (sym (o .0)) (h .0))))
+            (λ h. subst (λ (y : List Rec). Lists m s key room (recs ++ y) rows l a d) (sym (o .1)) (h .1))
+            (q .3);
+      })
+
+  adds : (r : ℕ) (recs : List Rec) (rows : List ℕ) → NoneOf (sight r recs) → Adds r recs rows
+  adds r recs rows n = adds-to r recs rows n (sightAt m s key room r recs) refl (sight-is z (sizeN m) (versionAt (m .cells)) (headAt m r) (slotAt m s) (slotAt m s .recs ++ recs) r)
+
+  trouble-to : (l : List ℕ) (recs : List Rec) (rows : List ℕ) (k x : ℕ) → Refuses (lines recs rows l) k x → FirstTrouble recs rows l k x
+  trouble-to [] recs rows k x q = absurd q
+  trouble-to (r ∷ l) recs rows k x q = ⊎-elim
+      (λ h. record { before = []; row = r; after = l; parts = refl; recs = recs; rows = rows; read = (refl, refl); fine = tt; trouble = h })
+      (λ h.
+      let n = none-append (sight r recs) (full r recs rows ∷ []) .0 (h .0) in
+      let d = adds r recs rows (n .0) in
+      let i = trouble-to l (d .recs′) (d .rows′) k x (subst (λ (y : List Line). Refuses y k x) (d .rest l) (h .1)) in
+      record {
+        before = r ∷ i .before;
+        row = i .row;
+        after = i .after;
+        parts = ap (λ (y : List ℕ). r ∷ y) (i .parts);
+        recs = i .recs;
+        rows = i .rows;
+        read = d .to (i .before) (i .recs) (i .rows) (i .read);
+        fine = none-append (sight r recs) (full r recs rows ∷ restLines m s key room r recs rows (i .before) (sightAt m s key room r recs)) .1 (n .0, (n .1 .0, subst NoneOf (sym (d .rest (i .before))) (i .fine)));
+        trouble = i .trouble;
+      })
+      (refuses-append k x (sight r recs ++ full r recs rows ∷ []) (restLines m s key room r recs rows l (sightAt m s key room r recs)) .0 q)
+
+  trouble-from : (before : List ℕ) (row : ℕ) (after l : List ℕ) (recs : List Rec) (rows : List ℕ) (a : List Rec) (b : List ℕ) (k x : ℕ) → l ≡ before ++ row ∷ after → Lists m s key room recs rows before a b → NoneOf (lines recs rows before) → Refuses (sight row a ++ full row a b ∷ []) k x → Refuses (lines recs rows l) k x
+  trouble-from [] row after l recs rows a b k x e p n t =
+      rw e (refuses-append k x (sight row recs ++ full row recs rows ∷ []) (restLines m s key room row recs rows after (sightAt m s key room row recs)) .1 (inl (subst (λ (y : List Rec). Refuses (sight row y ++ full row y rows ∷ []) k x) (p .0) (subst (λ (y : List ℕ). Refuses (sight row a ++ full row a y ∷ []) k x) (p .1) t))))
+  trouble-from (r ∷ before) row after l recs rows a b k x e p n t =
+      let q = none-append (sight r recs) (full r recs rows ∷ restLines m s key room r recs rows before (sightAt m s key room r recs)) .0 n in
+      let d = adds r recs rows (q .0) in
+      let i = trouble-from before row after (before ++ row ∷ after) (d .recs′) (d .rows′) a b k x refl (d .back before a b p) (subst NoneOf (d .rest before) (q .1 .1)) t in
+      rw e
+      (refuses-append k x (sight r recs ++ full r recs rows ∷ []) (restLines m s key room r recs rows (before ++ row ∷ after) (sightAt m s key room r recs)) .1
+      (inr (none-append (sight r recs) (full r recs rows ∷ []) .1 (q .0, (q .1 .0, tt)), subst (λ (y : List Line). Refuses y k x) (sym (d .rest (before ++ row ∷ after))) i)))
+
+  -- "lookup stops at the first trouble in row order, 14 last within a row"
+  pub lookup-stops-at-the-first-trouble : (l : List ℕ) (k x : ℕ) → Refuses (lines [] [] l) k x ↔ FirstTrouble [] [] l k x
+  lookup-stops-at-the-first-trouble l k x = (trouble-to l [] [] k x, λ q. trouble-from (q .before) (q .row) (q .after) l [] [] (q .recs) (q .rows) k x (q .parts) (q .read) (q .fine) (q .trouble))
