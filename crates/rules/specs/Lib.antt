@@ -52,3 +52,4 @@ pub mod HandedOut
 pub mod AbortUndoes
 pub mod NotEmpty
 pub mod LookupRefusedWhen
+pub mod LookupRows

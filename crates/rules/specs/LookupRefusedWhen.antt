@@ -187,3 +187,70 @@ module _ {z : Sizes} (m : Mem z) (s key room : ℕ) where
   -- "lookup stops at the first trouble in row order, 14 last within a row"
   pub lookup-stops-at-the-first-trouble : (l : List ℕ) (k x : ℕ) → Refuses (lines [] [] l) k x ↔ FirstTrouble [] [] l k x
   lookup-stops-at-the-first-trouble l k x = (trouble-to l [] [] k x, λ q. trouble-from (q .before) (q .row) (q .after) l [] [] (q .recs) (q .rows) k x (q .parts) (q .read) (q .fine) (q .trouble))
+
+  -- ---- 14
+
+  -- the first row with the key for which the buffer has no place: it is read without trouble, and so are all rows before it, which
+  -- have filled the buffer
+  pub record FirstUnplaced (l : List ℕ) : Type 0 where
+    pub before : List ℕ
+    pub row : ℕ
+    pub after : List ℕ
+    pub parts : l ≡ before ++ row ∷ after
+    pub recs : List Rec
+    pub rows : List ℕ
+    pub read : Lists m s key room [] [] before recs rows
+    pub fine : NoneOf (lines [] [] before)
+    pub readable : NoneOf (sight row recs)
+    pub holds : RowHolds m (slotAt m s) key room row recs
+    pub filled : room ≤ length rows
+
+  unplaced : (l : List ℕ) (x : ℕ) → FirstTrouble [] [] l resultFull x ↔ (FirstUnplaced l × (x ≡ 0))
+  unplaced l x = (
+    λ q. on q (refuses-past resultFull x (sight (q .row) (q .recs)) (full (q .row) (q .recs) (q .rows) ∷ []) (λ e. omega arith, (λ e. omega arith, (λ e. omega arith, (λ e. omega arith, tt)))) .0 (q .trouble)),
+    λ q. off (q .0) (q .1),
+  )
+    where
+      on : (q : FirstTrouble [] [] l resultFull x) → NoneOf (sight (q .row) (q .recs)) × Refuses (full (q .row) (q .recs) (q .rows) ∷ []) resultFull x → FirstUnplaced l × (x ≡ 0)
+      on q (n, inl h) = (record { before = q .before; row = q .row; after = q .after; parts = q .parts; recs = q .recs; rows = q .rows; read = q .read; fine = q .fine; readable = n; holds = h .0 .0; filled = h .0 .1 }, h .2)
+      on q (n, inr h) = absurd (h .1)
+
+      off : (q : FirstUnplaced l) → x ≡ 0 → FirstTrouble [] [] l resultFull x
+      off q e =
+          record {
+            before = q .before;
+            row = q .row;
+            after = q .after;
+            parts = q .parts;
+            recs = q .recs;
+            rows = q .rows;
+            read = q .read;
+            fine = q .fine;
+            trouble = refuses-append resultFull x (sight (q .row) (q .recs)) (full (q .row) (q .recs) (q .rows) ∷ []) .1 (inr (q .readable, inl ((q .holds, q .filled), refl, e)));
+          }
+
+  pub fourteen : (l : List ℕ) (x : ℕ) → Refuses (lines [] [] l) resultFull x ↔ (FirstUnplaced l × (x ≡ 0))
+  fourteen l x = Iff·trans (lookup-stops-at-the-first-trouble l resultFull x) (unplaced l x)
+
+-- 14: "list longer than its buffer", of the candidates and own rows
+pub lookup-refused-14-exactly-when : {z : Sizes} (m : Mem z) (s id key : ℕ) (cands : List ℕ) (room x : ℕ) →
+    (lookupOut m s id key cands room .answer ≡ Answer.Refused resultFull x) ↔ (NoneOf (slotLines m s id ++ eachOf (candidateLines m) cands) × (FirstUnplaced m s key room (rowsToRead m (slotAt m s .writes) cands) × (x ≡ 0)))
+lookup-refused-14-exactly-when m s id key cands room x =
+    let l = rowsToRead m (slotAt m s .writes) cands in
+    let rows = findLines m (slotAt m s) key room [] [] l in
+    let late = eachOf (ownRowLines m) (ownRows (slotAt m s .writes)) in
+    Iff·trans (refused-iff inAnswer m _ _ _ (lookup-refuses-exactly m s id key cands room) resultFull x)
+    (Iff·trans
+    (refuses-past resultFull x (slotLines m s id ++ eachOf (candidateLines m) cands) (rows ++ late)
+    (lacks-append resultFull (slotLines m s id) (eachOf (candidateLines m) cands) (slots-lack m s id resultFull (omega arith)) (lacks-each resultFull (candidateLines m) (λ r. (λ e. omega arith, tt)) cands)))
+    (Iff·and (λ e. e, λ e. e)
+    (Iff·trans (refuses-before resultFull x rows late (lacks-each resultFull (ownRowLines m) (λ r. (λ e. omega arith, tt)) (ownRows (slotAt m s .writes)))) (fourteen m s key room l x))))
+
+-- 14 of all rows
+pub lookup-all-refused-14-exactly-when : {z : Sizes} (m : Mem z) (s id key room x : ℕ) →
+    (lookupAllOut m s id key room .answer ≡ Answer.Refused resultFull x) ↔ (NoneOf (slotLines m s id) × (FirstUnplaced m s key room (from 0 (sizeR m)) × (x ≡ 0)))
+lookup-all-refused-14-exactly-when m s id key room x =
+    let rows = findLines m (slotAt m s) key room [] [] (from 0 (sizeR m)) in
+    Iff·trans (refused-iff inAnswer m _ _ _ (lookup-all-refuses-exactly m s id key room) resultFull x)
+    (Iff·trans (refuses-past resultFull x (slotLines m s id) (rows ++ []) (slots-lack m s id resultFull (omega arith)))
+    (Iff·and (λ e. e, λ e. e) (Iff·trans (refuses-before resultFull x rows [] tt) (fourteen m s key room (from 0 (sizeR m)) x))))
