@@ -53,3 +53,4 @@ pub mod AbortUndoes
 pub mod NotEmpty
 pub mod LookupRefusedWhen
 pub mod LookupRows
+pub mod Published
