@@ -54,3 +54,4 @@ pub mod NotEmpty
 pub mod LookupRefusedWhen
 pub mod LookupRows
 pub mod Published
+pub mod CommitPublishes
