@@ -55,3 +55,4 @@ pub mod LookupRefusedWhen
 pub mod LookupRows
 pub mod Published
 pub mod CommitPublishes
+pub mod LookupLists

@@ -37,7 +37,7 @@ unfolding from
 from-ascending zero a = tt
 from-ascending (suc k) a = (in-all (λ y. a < y) (from (suc a) k) (λ y i. omega (arith, from-in k (suc a) y .0 i .0)), from-ascending k (suc a))
 
-picks-ascending : (P : ℕ → Type 0) (l d : List ℕ) → Picks P l d → Ascending l → Ascending d
+pub picks-ascending : (P : ℕ → Type 0) (l d : List ℕ) → Picks P l d → Ascending l → Ascending d
 picks-ascending P [] d q a = rw q tt
 picks-ascending P (x ∷ l) d (inl q) a = rw (q .1 .1) (in-all (λ y. x < y) (q .1 .0) (λ y i. all-in (λ y. x < y) l (a .0) y (picks-in P l (q .1 .0) (q .1 .2) y .0 i .0)), picks-ascending P l (q .1 .0) (q .1 .2) (a .1))
 picks-ascending P (x ∷ l) d (inr q) a = picks-ascending P l d (q .1) (a .1)

@@ -266,7 +266,7 @@ module _ {z : Sizes} (m : Mem z) where
         (e .3)
 
     -- where no line applies there is something to come to
-    listed : (l : List ℕ) (recs : List Rec) (rows : List ℕ) → NoneOf (linesOf recs rows l) → (recs′ : List Rec) × (rows′ : List ℕ) × Lists recs rows l recs′ rows′
+    pub listed : (l : List ℕ) (recs : List Rec) (rows : List ℕ) → NoneOf (linesOf recs rows l) → (recs′ : List Rec) × (rows′ : List ℕ) × Lists recs rows l recs′ rows′
     listed [] recs rows n = (recs, rows, (refl, refl))
     listed (r ∷ l) recs rows n = on (sightAt r recs) (sight-is z (sizeN m) (versionAt (m .cells)) (headAt m r) (slotAt m s) (slotAt m s .recs ++ recs) r) (p .0) (p .1 .1) (listed l)
       where
@@ -302,7 +302,7 @@ module _ {z : Sizes} (m : Mem z) where
     abbrev pub LookupSpec : Outcome z Answer ℕ → Type 0
     LookupSpec = Meets inAnswer m (lookupLines m s id key cands room) (LookupAccepted s key room rowsOf)
 
-    of-rows : NoneOf (lookupLines m s id key cands room) → NoneOf (linesOf s key room [] [] rowsOf)
+    pub of-rows : NoneOf (lookupLines m s id key cands room) → NoneOf (linesOf s key room [] [] rowsOf)
     of-rows n =
         let late = eachOf (ownRowLines m) (ownRows (slotAt m s .writes)) in
         none-append (linesOf s key room [] [] rowsOf) late .0 (none-append (slotLines m s id ++ eachOf (candidateLines m) cands) (linesOf s key room [] [] rowsOf ++ late) .0 n .1) .0
@@ -317,7 +317,7 @@ module _ {z : Sizes} (m : Mem z) where
     abbrev pub LookupAllSpec : Outcome z Answer ℕ → Type 0
     LookupAllSpec = Meets inAnswer m (lookupAllLines m s id key room) (LookupAccepted s key room (from 0 (sizeR m)))
 
-    of-all-rows : NoneOf (lookupAllLines m s id key room) → NoneOf (linesOf s key room [] [] (from 0 (sizeR m)))
+    pub of-all-rows : NoneOf (lookupAllLines m s id key room) → NoneOf (linesOf s key room [] [] (from 0 (sizeR m)))
     of-all-rows n = none-append (linesOf s key room [] [] (from 0 (sizeR m))) [] .0 (none-append (slotLines m s id) (linesOf s key room [] [] (from 0 (sizeR m)) ++ []) .0 n .1) .0
 
     pub lookup-all-meets : LookupAllSpec (lookupAllOut m s id key room)
