@@ -56,3 +56,4 @@ pub mod LookupRows
 pub mod Published
 pub mod CommitPublishes
 pub mod LookupLists
+pub mod BeginTakes
