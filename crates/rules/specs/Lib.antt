@@ -50,10 +50,10 @@ pub mod Horizon
 pub mod VacuumRemoves
 pub mod HandedOut
 pub mod AbortUndoes
-pub mod NotEmpty
 pub mod LookupRefusedWhen
 pub mod LookupRows
 pub mod Published
 pub mod CommitPublishes
 pub mod LookupLists
 pub mod BeginTakes
+pub mod NotEmpty

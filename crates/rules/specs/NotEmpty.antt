@@ -7,14 +7,14 @@ use mathlib.Core.Option.{Option, none, some}
 use mathlib.Core.Path.{_≡_, refl, sym, ap, _∙_, subst}
 use mathlib.Core.Logic.{_≢_, _⊎_, inl, inr}
 use native.Mathlib.Omega.{arith}
-use lib.ListN.{length, getD, set, replicate}
+use lib.ListN.{length, getD, set, take, replicate}
 use Rattle.rules.specs.declared.ReadAnswer.{ReadAnswer}
 use Rattle.rules.specs.declared.ReadAnswer.the-variants.{None, Empty, Key}
 use Rattle.rules.specs.declared.Answer.{Answer}
 use Rattle.rules.specs.declared.Answer.the-variants.{Done, Begun, Wrote, Vacuumed, Listed, Refused}
-use Rattle.rules.specs.Sizes.{Sizes, base, lastId, WRITES}
+use Rattle.rules.specs.Sizes.{Sizes, base, lastId, ID, WRITES}
 use Rattle.rules.specs.Lists.{has, keep, first, last, fold, least, greatest, from}
-use Rattle.rules.specs.Versions.{tx, at, versionOf, wordsOf, cellAt, versionAt, linkAt, unlocked, putCell}
+use Rattle.rules.specs.Versions.{tx, at, versionOf, wordsOf, cellAt, versionAt, linkAt, withXmax, withNext, unlocked, putCell}
 use Rattle.rules.specs.Slots.{words, threes, slotOf, push, opened}
 use Rattle.rules.specs.Slots as S
 use Rattle.rules.specs.Memory.{Mem, mem, sizeR, sizeN, free, headAt, wordsAt, slotAt, withSlot}
@@ -34,7 +34,7 @@ use Rattle.rules.specs.Run.{Call, create, begin, read, write, commit, ab
 use Rattle.rules.specs.Exactly.{In, NoneOf, inAnswer, inRead, accepted-none, not-refused, none-append}
 use Rattle.rules.specs.CommitRefuses.{commitLines, commit-refuses-exactly}
 use Rattle.rules.specs.CommitRefusedWhen.{Validating, commit-refused-8-exactly-when}
-use Rattle.rules.specs.CommitAllOrNothing.{published, commit-accepted-when, commit-accepted-leaves-exactly, commit-refused-for-its-last-write, commit-refused-for-damage-in-its-last-entry}
+use Rattle.rules.specs.CommitAllOrNothing.{published, commit-refused-keeps-every-head-mark-and-lock, commit-accepted-when, commit-accepted-leaves-exactly, commit-refused-for-its-last-write, commit-refused-for-damage-in-its-last-entry}
 use Rattle.rules.specs.RefusedChangesNothing.{refused-call-changes-nothing}
 use Rattle.rules.specs.ReadRefuses.{sightLinesAt, read-refuses-exactly}
 use Rattle.rules.specs.ReadRefusedWhen.{read-refused-10-when-the-chain-is-longer}
@@ -43,8 +43,14 @@ use Rattle.rules.specs.AbortRefuses.{abortLines, abort-refuses-exactly}
 use Rattle.rules.specs.VacuumRefuses.{vacuum-refuses-exactly}
 use Rattle.rules.specs.VacuumRemoves.{Removed, vacuum-removes-exactly-the-reclaimable, vacuum-of-an-empty-row}
 use Rattle.rules.specs.AbortUndoes.{bases, abort-unlocks-each-base-it-owns, abort-gives-cells-back-in-write-order}
-use Rattle.rules.specs.HandedOut.{FreeList, cells-are-handed-out-in-order, a-cell-given-back-is-the-next-handed-out}
+use Rattle.rules.specs.HandedOut.{FreeList, write-leaves-the-rest-of-the-free-list, cells-are-handed-out-in-order, a-cell-given-back-is-the-next-handed-out}
 use Rattle.rules.specs.LongerWalk.{lent, Same, Turned, longer-walk-changes-no-answer, longer-walk-turns-10-into}
+use Rattle.rules.specs.CommitPublishes.{commit-moves-each-head, commit-marks-each-base, commit-links-each-new}
+use Rattle.rules.specs.Published.{Apart}
+use Rattle.rules.specs.CreateRefuses.{begin-refuses-exactly}
+use Rattle.rules.specs.BeginTakes.{begin-takes-the-lowest-empty-slot}
+use Rattle.rules.specs.LookupRefuses.{lookup-refuses-exactly, lookup-all-refuses-exactly}
+use Rattle.rules.specs.LookupLists.{ListsKey, lookup-lists-exactly-the-rows-with-the-key, lookup-all-lists-exactly-the-rows-with-the-key}
 use Rattle.rules.specs.Terms.{is-fitting}
 use Rattle.rules.specs.Along.{Way}
 use Rattle.rules.specs.SharedLines.{slotLines, rowLine, rowLines}
@@ -117,7 +123,14 @@ pub record Computed : Type 0 where
   pub twoSteps : readOut (lent 2 behind) 0 2 0 .answer ≡ Key 70
   pub behindSize : sizeN behind ≡ 4
   pub behindChain : (headAt behind 0 ≡ 2) × (versionAt (behind .cells) 2 .next .0 ≡ 1) × (versionAt (behind .cells) 1 .next .0 ≡ 0)
+  -- the commit of a row that was there before, and a lookup before it
+  pub commitsOver : commitOut locking 0 2 .answer ≡ Done
+  pub looksUp : lookupAllOut locking 0 2 75 1 .answer ≡ Listed 1
+  pub looksUpSome : lookupOut locking 0 2 75 (1 ∷ 0 ∷ 1 ∷ []) 1 .answer ≡ Listed 1
   -- a write that takes a cell
+  pub begins : beginOut idle .answer ≡ Begun 1 (tx 2)
+  pub idleFree : free idle ≡ 1
+  pub idleLinks : (linkAt (idle .cells) 1 ≡ 2) × (linkAt (idle .cells) 2 ≡ 3) × (linkAt (idle .cells) 3 ≡ 4) × (linkAt (idle .cells) 4 ≡ 0)
   pub writes : writeOut idle 0 1 0 (some 5) .answer ≡ Wrote (at 1)
   pub idleWrites : slotAt idle 0 .writes ≡ []
   pub writesBack : writeOut (giveBack 2 idle) 0 1 0 (some 5) .answer ≡ Wrote (at 2)
@@ -154,6 +167,12 @@ computed =
       twoSteps = refl;
       behindSize = refl;
       behindChain = (refl, refl, refl);
+      commitsOver = refl;
+      looksUp = refl;
+      looksUpSome = refl;
+      begins = refl;
+      idleFree = refl;
+      idleLinks = (refl, refl, refl, refl);
       writes = refl;
       idleWrites = refl;
       writesBack = refl;
@@ -278,3 +297,49 @@ a-longer-walk-changes-nothing =
 
 pub a-10-turns-into-an-answer : Turned behind 0 2 0 1 2 (omega arith) (readOut (lent 2 behind) 0 2 0 .answer) × (readOut (lent 2 behind) 0 2 0 .answer ≡ Key 70)
 a-10-turns-into-an-answer = (longer-walk-turns-10-into behind 0 2 0 1 2 (omega arith) (computed .oneStep), computed .twoSteps)
+
+pub a-begin-takes-the-lowest-empty-slot : (j : ℕ) → j < vacant (take (base .slots) (idle .slots)) → getD (wordsAt idle j) ID 0 ≢ 0
+a-begin-takes-the-lowest-empty-slot = begin-takes-the-lowest-empty-slot idle (accepted-none inAnswer idle _ _ _ (begin-refuses-exactly idle) (λ k x e. not-refused (Begun 1 (tx 2)) refl k x (sym (computed .begins) ∙ e)))
+
+-- the first free cell is taken, the rest of the free list stays
+pub a-write-leaves-the-rest : FreeList (writeOut idle 0 1 0 (some 5) .after) (2 ∷ 3 ∷ 4 ∷ [])
+a-write-leaves-the-rest =
+    let l = computed .idleLinks in
+    write-leaves-the-rest-of-the-free-list idle 0 1 0 (some 5)
+    (accepted-none inAnswer idle _ _ _ (write-refuses-exactly idle 0 1 0 (some 5)) (λ k x e. not-refused (Wrote (at 1)) refl k x (sym (computed .writes) ∙ e)))
+    (rw (computed .idleWrites) tt) 1 (2 ∷ 3 ∷ 4 ∷ [])
+    (computed .idleFree, ((λ e. omega (arith, e)), (l .0, ((λ e. omega (arith, e)), (l .1, ((λ e. omega (arith, e)), (l .2, ((λ e. omega (arith, e)), l .3))))))))
+    not-in
+  where
+    not-in : In {A = ℕ} 1 (2 ∷ 3 ∷ 4 ∷ []) → ⊥
+    not-in (inl e) = omega (arith, e)
+    not-in (inr (inl e)) = omega (arith, e)
+    not-in (inr (inr (inl e))) = omega (arith, e)
+    not-in (inr (inr (inr i))) = i
+
+over : NoneOf (commitLines locking 0 2)
+over = commit-accepted-when locking 0 2 (computed .commitsOver)
+
+-- row 0's head is the new cell, its base is marked and unlocked, the new cell is linked to it
+pub a-commit-publishes : (headAt (commitOut locking 0 2 .after) 0 ≡ 2) × (versionAt (commitOut locking 0 2 .after .cells) 1 ≡ unlocked (withXmax (versionAt (locking .cells) 1) 2)) × (versionAt (commitOut locking 0 2 .after .cells) 2 ≡ withNext (versionAt (locking .cells) 2) 1)
+a-commit-publishes =
+    let w = S.write 0 1 2 in
+    let apart : Apart (slotAt locking 0 .writes) = rw (computed .lockingWrites) ((λ e. omega (arith, e)), tt, tt) in
+    let here : In w (slotAt locking 0 .writes) = rw (computed .lockingWrites) (inl refl) in (
+      commit-moves-each-head locking 0 2 over 0 w (record { before = []; after = []; parts = computed .lockingWrites; ofRow = refl; none = tt }),
+      commit-marks-each-base locking 0 2 over apart w here (λ e. omega (arith, e)),
+      commit-links-each-new locking 0 2 over apart w here,
+    )
+
+pub a-refused-commit-keeps-every-head : (r : ℕ) → headAt (commitOut overtaken 0 1 .after) r ≡ headAt overtaken r
+a-refused-commit-keeps-every-head = commit-refused-keeps-every-head-mark-and-lock overtaken 0 1 8 1 (computed .overtakes) .0
+
+pub a-lookup-lists-the-key : ListsKey locking 0 75 1 (from 0 (sizeR locking)) (lookupAllOut locking 0 2 75 1)
+a-lookup-lists-the-key =
+    lookup-all-lists-exactly-the-rows-with-the-key locking 0 2 75 1
+    (accepted-none inAnswer locking _ _ _ (lookup-all-refuses-exactly locking 0 2 75 1) (λ k x e. not-refused (Listed 1) refl k x (sym (computed .looksUp) ∙ e)))
+
+pub a-lookup-of-candidates-lists-the-key : ListsKey locking 0 75 1 (rowsToRead locking (slotAt locking 0 .writes) (1 ∷ 0 ∷ 1 ∷ [])) (lookupOut locking 0 2 75 (1 ∷ 0 ∷ 1 ∷ []) 1)
+a-lookup-of-candidates-lists-the-key =
+    lookup-lists-exactly-the-rows-with-the-key locking 0 2 75 (1 ∷ 0 ∷ 1 ∷ []) 1
+    (accepted-none inAnswer locking _ _ _ (lookup-refuses-exactly locking 0 2 75 (1 ∷ 0 ∷ 1 ∷ []) 1) (λ k x e. not-refused (Listed 1) refl k x (sym (computed .looksUpSome) ∙ e)))
