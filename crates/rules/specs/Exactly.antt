@@ -374,3 +374,28 @@ module _ (k x : ℕ) where
 
   pub refuses-each : {A : Type 0} (g : A → List Line) (l : List A) → Refuses (eachOf g l) k x ↔ FirstOf g l
   refuses-each g l = (each-to g l, λ q. each-from g (q .before) (q .member) (q .after) l (q .parts) (q .fine) (q .refuses))
+
+  -- the whole table, flat: a line that applies, of this number and value, and no line before it applies
+  pub record FirstLine (l : List Line) : Type 1 where
+    pub before : List Line
+    pub line : Line
+    pub after : List Line
+    pub parts : l ≡ before ++ line ∷ after
+    pub earlier : NoneOf before
+    pub applies : line .holds
+    pub number : k ≡ line .number
+    pub value : x ≡ line .value
+
+  first-to : (l : List Line) → Refuses l k x → FirstLine l
+  first-to [] r = absurd r
+  first-to (p ∷ l) (inl q) = record { before = []; line = p; after = l; parts = refl; earlier = tt; applies = q .0; number = q .1; value = q .2 }
+  first-to (p ∷ l) (inr q) =
+      let i = first-to l (q .1) in
+      record { before = p ∷ i .before; line = i .line; after = i .after; parts = ap (λ (y : List Line). p ∷ y) (i .parts); earlier = (q .0, i .earlier); applies = i .applies; number = i .number; value = i .value }
+
+  first-from : (l before : List Line) (p : Line) (after : List Line) → l ≡ before ++ p ∷ after → NoneOf before → p .holds → k ≡ p .number → x ≡ p .value → Refuses l k x
+  first-from l [] p after e n h a b = rw e (inl (h, a, b))
+  first-from l (q ∷ before) p after e n h a b = rw e (inr (n .0, first-from (before ++ p ∷ after) before p after refl (n .1) h a b))
+
+  pub refuses-first-line : (l : List Line) → Refuses l k x ↔ FirstLine l
+  refuses-first-line l = (first-to l, λ q. first-from l (q .before) (q .line) (q .after) (q .parts) (q .earlier) (q .applies) (q .number) (q .value))

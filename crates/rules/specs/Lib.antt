@@ -57,3 +57,4 @@ pub mod CommitPublishes
 pub mod LookupLists
 pub mod BeginTakes
 pub mod NotEmpty
+pub mod EveryRefusal

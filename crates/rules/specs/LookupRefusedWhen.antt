@@ -19,16 +19,12 @@ use Rattle.rules.specs.Lookup.{isKey, ownRows, rowsToRead, lookupOut, lo
 use Rattle.rules.specs.Exactly.{All, all-map, Line, Refuses, NoneOf, eachOf, FirstOf, Lacks, inAnswer, refused-iff, refuses-append, refuses-past, refuses-before, refuses-each, none-append, none-each, none-refuses, lacks-append, lacks-each, holds-true, fails-false}
 use Rattle.rules.specs.SharedLines.{slotLines, slots-lack}
 use Rattle.rules.specs.ReadRefuses.{SightIs, sight-is, reads-is}
-use Rattle.rules.specs.LookupRefuses.{HoldsKey, is-key, RowHolds, sightLinesOf, fullLine, findLines, candidateLines, ownRowLines, lookupLines, lookup-refuses-exactly, lookupAllLines, lookup-all-refuses-exactly}
+use Rattle.rules.specs.LookupRefuses.{HoldsKey, is-key, RowHolds, sightLinesOf, fullLine, findLines, find-lacks, candidateLines, ownRowLines, lookupLines, lookup-refuses-exactly, lookupAllLines, lookup-all-refuses-exactly}
 use Rattle.rules.specs.OneOutcome.{RowReads, Lists, sightAt, restLines, linesOf}
 
 -- ---- 6
 
 module _ {z : Sizes} (m : Mem z) (s id key : ℕ) (cands : List ℕ) (room : ℕ) where
-  find-lacks-6 : (l : List ℕ) (recs : List Rec) (rows : List ℕ) → Lacks badRow (findLines m (slotAt m s) key room recs rows l)
-  find-lacks-6 [] recs rows = tt
-  find-lacks-6 (r ∷ l) recs rows = (λ e. omega arith, (λ e. omega arith, (λ e. omega arith, (λ e. omega arith, (λ e. omega arith, find-lacks-6 l _ _)))))
-
   -- x is the first candidate at R or above, in the order of the list
   pub record FirstAbove (x : ℕ) : Type 0 where
     pub before : List ℕ
@@ -70,7 +66,7 @@ module _ {z : Sizes} (m : Mem z) (s id key : ℕ) (cands : List ℕ) (room : ℕ
       Iff·trans (refused-iff inAnswer m _ _ _ (lookup-refuses-exactly m s id key cands room) badRow x)
       (Iff·trans
       (refuses-before badRow x (slotLines m s id ++ eachOf (candidateLines m) cands) (rows ++ late)
-      (lacks-append badRow rows late (find-lacks-6 (rowsToRead m (slotAt m s .writes) cands) [] []) (lacks-each badRow (ownRowLines m) (λ r. (λ e. omega arith, tt)) (ownRows (slotAt m s .writes)))))
+      (lacks-append badRow rows late (find-lacks m (slotAt m s) key room badRow (omega arith) (rowsToRead m (slotAt m s .writes) cands) [] []) (lacks-each badRow (ownRowLines m) (λ r. (λ e. omega arith, tt)) (ownRows (slotAt m s .writes)))))
       (Iff·trans
       (refuses-past badRow x (slotLines m s id) (eachOf (candidateLines m) cands) (λ e. omega arith, (λ e. omega arith, (λ e. omega arith, (λ e. omega arith, tt)))))
       (Iff·and (λ e. e, λ e. e) (Iff·trans (refuses-each badRow x (candidateLines m) cands) (above-of x)))))

@@ -23,7 +23,7 @@ use Rattle.rules.specs.Memory.{Mem, sizeR, sizeN, headAt, wordsAt, slotA
 use Rattle.rules.specs.Outcome.{Outcome, out, Test, guard, each, refuse, slotTests}
 use Rattle.rules.specs.Read.{answerAt, Sight, blocked, sees, readRow, readAt}
 use Rattle.rules.specs.Lookup.{Found, stopped, got, isKey, ownRows, listRow, findRow, find, lookupEnd, candidateTests, ownRowTests, rowsToRead, lookupOut, lookupAllOut}
-use Rattle.rules.specs.Exactly.{Line, line, eachOf, NoneOf, Refuses, Says, Reflects, Exactly, inAnswer, is-most, says-append, says-each, exactly-tested, exactly-guarded, exactly-blocked, exactly-past, refuses-append, none-append}
+use Rattle.rules.specs.Exactly.{Line, line, eachOf, Lacks, NoneOf, Refuses, Says, Reflects, Exactly, inAnswer, is-most, says-append, says-each, exactly-tested, exactly-guarded, exactly-blocked, exactly-past, refuses-append, none-append}
 use Rattle.rules.specs.SharedLines.{slotLines, slot-says, rowLine}
 use Rattle.rules.specs.ReadRefuses.{sightLines, Reads, SightIs, sight-is, reads-is}
 
@@ -77,6 +77,11 @@ module _ {z : Sizes} (m : Mem z) (t : Slot) (key room : ℕ) where
       sightLinesOf r recs
       ++ fullLine r recs rows
       ∷ findLines (recsAfter recs (readAt m t (t .recs ++ recs) r)) (rowsAfter r rows (readAt m t (t .recs ++ recs) r)) l
+
+  -- a row's trouble is 10 or more
+  pub find-lacks : (k : ℕ) → k < 10 → (l : List ℕ) (recs : List Rec) (rows : List ℕ) → Lacks k (findLines recs rows l)
+  find-lacks k b [] recs rows = tt
+  find-lacks k b (r ∷ l) recs rows = (λ e. omega (arith, e), (λ e. omega (arith, e), (λ e. omega (arith, e), (λ e. omega (arith, e), (λ e. omega (arith, e), find-lacks k b l _ _)))))
 
   fold-stopped : (l : List ℕ) (k x : ℕ) → fold (findRow m t key room) l (stopped k x) ≡ stopped k x
   unfolding fold findRow
