@@ -58,3 +58,4 @@ pub mod LookupLists
 pub mod BeginTakes
 pub mod NotEmpty
 pub mod EveryRefusal
+pub mod DamagedWhen

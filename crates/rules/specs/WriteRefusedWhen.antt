@@ -52,7 +52,7 @@ module _ {z : Sizes} (m : Mem z) (s id row : ℕ) where
   sound : (sizeN m < headAt m row → ⊥) → HeadSound
   sound n = byLe (headAt m row) (sizeN m) (λ b. b) (λ b. absurd (n b))
 
-  fine : (sizeN m < headAt m row → ⊥) → ((headAt m row ≢ 0) × LockedByOther (headVersion m row) id → ⊥) → ((headAt m row ≢ 0) × (Sees (slotAt m s) (headVersion m row) → ⊥) → ⊥) → HeadFine
+  pub fine : (sizeN m < headAt m row → ⊥) → ((headAt m row ≢ 0) × LockedByOther (headVersion m row) id → ⊥) → ((headAt m row ≢ 0) × (Sees (slotAt m s) (headVersion m row) → ⊥) → ⊥) → HeadFine
   fine a b c =
       record {
         sound = sound a;
