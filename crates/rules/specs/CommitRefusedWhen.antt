@@ -65,7 +65,7 @@ module _ {z : Sizes} (m : Mem z) (s id : ℕ) where
     pub earlier : NoneOf (slotLines m s id)
     pub writes : t .writes ≢ []
 
-  cell-of : (c : ℕ) → ((CellOf (sizeN m) c → ⊥) → ⊥) → CellOf (sizeN m) c
+  pub cell-of : (c : ℕ) → ((CellOf (sizeN m) c → ⊥) → ⊥) → CellOf (sizeN m) c
   cell-of c n = byBool (isCell (sizeN m) c) (λ e. is-cell (sizeN m) c .yes e) (λ e. absurd (n (is-cell (sizeN m) c .no e)))
 
   pub stands : (q : Rec) → NoneOf (recordLines m t q) → Stands q
