@@ -1,35 +1,34 @@
 -- Abort: "unlock (owner 0, here and in commit) each base whose owner is this id, give cells back in write order, empty the slot". It
 -- unlocks exactly those bases.
-use Prim.Native.Nat.{ℕ, zero, suc, _≤_, _<_}
-use mathlib.Core.Bool.{true, false, cond, _&&_}
-use mathlib.Core.List.{List, [], _∷_, _++_, reverseAux}
+use Prim.Native.Nat.{ℕ, _≤_, _<_}
+use mathlib.Core.Bool.{_&&_}
+use mathlib.Core.List.{List, [], _∷_, reverseAux}
 use mathlib.Core.Path.{_≡_, refl, sym, ap, _∙_, subst}
-use mathlib.Core.Logic.{_≢_, _⊎_, inl, inr}
+use mathlib.Core.Logic.{_≢_, inl, inr}
 use native.Mathlib.Omega.{arith}
 use lib.ListN.{length, getD}
 use lib.Seq.{getD-set-same}
 use lib.Dec.{eqb}
-use borrow.Author.Tests.{eq-eqb, ne-eqb}
 use Rattle.rules.specs.declared.Version.{Version}
 use Rattle.rules.specs.declared.Answer.{Answer}
 use Rattle.rules.specs.declared.Answer.the-variants.{Done}
 use Rattle.rules.specs.Sizes.{Sizes, FREE}
 use Rattle.rules.specs.Lists.{nonzero, fold}
 use Rattle.rules.specs.Cases.{byBool, byEq, byLe}
-use Rattle.rules.specs.Versions.{emptyVersion, unlocked, versionOf, cellAt, versionAt, linkAt, putCell, putVersion}
-use Rattle.rules.specs.Slots.{Write, Slot, emptied}
-use Rattle.rules.specs.Memory.{Mem, sizeR, sizeN, free, headAt, slotAt, withCells, withSlot}
+use Rattle.rules.specs.Versions.{emptyVersion, unlocked, versionOf, cellAt, versionAt, linkAt, putVersion}
+use Rattle.rules.specs.Slots.{Write, emptied}
+use Rattle.rules.specs.Memory.{Mem, sizeR, sizeN, free, slotAt, withCells, withSlot}
 use Rattle.rules.specs.Outcome.{Outcome, out, isCell}
-use Rattle.rules.specs.Abort.{unlockBase, news, giveBack, abortOut}
+use Rattle.rules.specs.Abort.{unlockBase, news, abortOut}
 use Rattle.rules.specs.Exactly.{In, All, all-map, NoneOf, eachOf, Reflects, is-equal, is-nonzero, is-both, holds-true, fails-false, none-append, none-each}
-use Rattle.rules.specs.Terms.{Fitting, store-fits, CellOf, is-cell}
+use Rattle.rules.specs.Terms.{Fitting, store-fits, is-cell}
 use Rattle.rules.specs.Along.{positive}
-use Rattle.rules.specs.CellLaws.{HasCell, length-put, put-on, put-off, put-link, put-else}
+use Rattle.rules.specs.CellLaws.{HasCell, length-put, put-on, put-link, put-else}
 use Rattle.rules.specs.Members.{Once, all-in, in-all}
 use Rattle.rules.specs.GivenBack.{giveAll, give-all-rows, give-all-slots, give-all-else, give-all-cleared, give-all-meta}
 use Rattle.rules.specs.HandedOut.{FreeList, free-agree, give-all-in-front}
 use Rattle.rules.specs.SharedLines.{slotLines}
-use Rattle.rules.specs.AbortRefuses.{undoLines, abortLines, aborted, abort-refuses-exactly}
+use Rattle.rules.specs.AbortRefuses.{undoLines, abortLines, abort-refuses-exactly}
 
 -- the bases of a write set, in write order
 abbrev pub bases : List Write → List ℕ

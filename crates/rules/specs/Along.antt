@@ -1,22 +1,19 @@
 -- A chain as a reader of the paper sees it: following next from the head passes these cells and comes to this pointer. What `look`
 -- and `chain` come to, exactly, in these words.
 use Prim.Native.Nat.{ℕ, zero, suc, _+_, _-_, _≤_, _<_}
-use mathlib.Core.Bool.{Bool, true, false, cond}
-use mathlib.Core.List.{List, [], _∷_, _++_}
-use mathlib.Core.Option.{Option, none, some}
-use mathlib.Core.Path.{_≡_, refl, sym, ap, _∙_, subst}
-use mathlib.Core.Logic.{_≢_, _↔_}
+use mathlib.Core.List.{List, [], _∷_}
+use mathlib.Core.Path.{_≡_, refl, sym, ap, _∙_}
+use mathlib.Core.Logic.{_≢_}
 use native.Mathlib.Omega.{arith}
 use lib.ListN.{length}
-use lib.Dec.{eqb, ltb}
 use borrow.Author.Tests.{eq-eqb, ne-eqb, lt-ltb, le-ltb}
 use Rattle.rules.specs.declared.Version.{Version}
 use Rattle.rules.specs.Lists.{first}
 use Rattle.rules.specs.Cases.{byBool, byEq, byLe}
 use Rattle.rules.specs.Slots.{Slot}
 use Rattle.rules.specs.Visible.{visible}
-use Rattle.rules.specs.Chain.{After, ends, goesOn, broken, Chain, chained, chain, Look, found, nothing, tooLong, harmed, lookOf, look}
-use Rattle.rules.specs.Exactly.{All, Reflects, holds-true, fails-false}
+use Rattle.rules.specs.Chain.{After, ends, goesOn, broken, Chain, chained, chain, Look, found, nothing, tooLong, harmed, look}
+use Rattle.rules.specs.Exactly.{All, holds-true, fails-false}
 use Rattle.rules.specs.Terms.{CellOf, Sees, is-seen}
 
 -- from pointer h the next pointers pass exactly the cells of l, in order, and come to pointer p

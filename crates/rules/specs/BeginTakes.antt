@@ -1,25 +1,23 @@
 -- Begin: "lowest empty slot, id = clock, clock + 1".
-use Prim.Native.Nat.{ℕ, zero, suc, _+_, _≤_, _<_}
-use mathlib.Core.Bool.{cond}
-use mathlib.Core.List.{List, [], _∷_, _++_}
-use mathlib.Core.Path.{_≡_, refl, sym, ap, _∙_, subst}
-use mathlib.Core.Logic.{_≢_, _⊎_, inl, inr}
+use Prim.Native.Nat.{ℕ, zero, suc, _+_, _<_}
+use mathlib.Core.List.{List, [], _∷_}
+use mathlib.Core.Path.{_≡_, refl, sym, ap, _∙_}
+use mathlib.Core.Logic.{_≢_}
 use native.Mathlib.Omega.{arith}
-use lib.ListN.{length, getD, take, set}
+use lib.ListN.{getD, take}
 use lib.Seq.{getD-take, getD-set-same}
-use lib.Dec.{eqb, leb}
 use borrow.Author.Tests.{eq-eqb, ne-eqb, le-leb}
 use Rattle.rules.specs.declared.Answer.{Answer}
 use Rattle.rules.specs.declared.Answer.the-variants.{Begun}
 use Rattle.rules.specs.Sizes.{Sizes, ID, CLOCK}
 use Rattle.rules.specs.Cases.{byEq, byLe}
 use Rattle.rules.specs.Versions.{tx}
-use Rattle.rules.specs.Memory.{Mem, sizeR, sizeN, clock, wordsAt}
+use Rattle.rules.specs.Memory.{Mem, clock, wordsAt}
 use Rattle.rules.specs.Snapshot.{vacant}
 use Rattle.rules.specs.Outcome.{Outcome, out}
 use Rattle.rules.specs.Begin.{begun, beginOut}
-use Rattle.rules.specs.Exactly.{NoneOf, is-most, fails-false}
-use Rattle.rules.specs.Terms.{Fitting, store-fits, AllOccupied, is-all-occupied}
+use Rattle.rules.specs.Exactly.{NoneOf}
+use Rattle.rules.specs.Terms.{store-fits, is-all-occupied}
 use Rattle.rules.specs.CreateRefuses.{beginLines, begin-refuses-exactly}
 
 -- the slots before the vacant one are occupied

@@ -1,14 +1,14 @@
 -- A cell is stored whole: what is read back asks nothing of its length.
-use Prim.Native.Nat.{ℕ, zero, suc, _+_, _-_, _<_, _≤_}
-use mathlib.Core.List.{List, [], _∷_}
-use mathlib.Core.Path.{_≡_, refl, sym, ap, _∙_}
+use Prim.Native.Nat.{ℕ, zero, suc, _-_, _≤_}
+use mathlib.Core.List.{List, []}
+use mathlib.Core.Path.{_≡_, refl, ap, _∙_}
 use mathlib.Core.Logic.{_≢_}
 use native.Mathlib.Nat.{not-suc-le-zero}
 use native.Mathlib.Omega.{arith}
 use lib.ListN.{length, getD, set, length-set}
 use lib.Seq.{getD-set-same, getD-set-other}
 use Rattle.rules.specs.declared.Version.{Version}
-use Rattle.rules.specs.Versions.{versionOf, wordsOf, cellAt, versionAt, linkAt, putCell, putVersion}
+use Rattle.rules.specs.Versions.{versionOf, wordsOf, cellAt, versionAt, linkAt, putCell}
 
 -- the arena has cell c
 pub record HasCell (cs : List (List ℕ)) (c : ℕ) : Type 0 where

@@ -1,7 +1,7 @@
 -- Commit: several writes together or not at all. "All tests come before any change."
-use Prim.Native.Nat.{ℕ, _≤_, _<_}
+use Prim.Native.Nat.{ℕ, _<_}
 use mathlib.Core.List.{List, [], _∷_, _++_}
-use mathlib.Core.Path.{_≡_, refl, sym, ap, _∙_, subst}
+use mathlib.Core.Path.{_≡_, refl, ap}
 use mathlib.Core.Logic.{_≢_, _⊎_, inl, inr, ⊎-elim}
 use native.Mathlib.Omega.{arith}
 use Rattle.rules.specs.declared.Answer.{Answer}
@@ -9,11 +9,11 @@ use Rattle.rules.specs.declared.Answer.the-variants.{Done}
 use Rattle.rules.specs.Sizes.{Sizes}
 use Rattle.rules.specs.Numbers.{writeConflict, damaged}
 use Rattle.rules.specs.Versions.{versionAt}
-use Rattle.rules.specs.Slots.{Write, Rec, Slot, emptied}
+use Rattle.rules.specs.Slots.{Write, Slot, emptied}
 use Rattle.rules.specs.Memory.{Mem, sizeR, sizeN, headAt, slotAt, withSlot}
 use Rattle.rules.specs.Outcome.{Outcome, out, refuse}
 use Rattle.rules.specs.Commit.{publishAll, commitOut}
-use Rattle.rules.specs.Exactly.{All, all-map, Refuses, NoneOf, Exactly, eachOf, under, inAnswer, refuses-past, refuses-each, refuses-under, refuses-append, none-append, none-each}
+use Rattle.rules.specs.Exactly.{All, all-map, NoneOf, eachOf, under, refuses-each, refuses-under, refuses-append, none-append, none-each}
 use Rattle.rules.specs.Terms.{CellOf}
 use Rattle.rules.specs.SharedLines.{slotLines}
 use Rattle.rules.specs.CommitRefuses.{recordLines, baseLines, newLines, validLines, commitLines, commit-refuses-exactly}

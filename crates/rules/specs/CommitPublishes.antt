@@ -1,29 +1,27 @@
 -- An accepted commit, head by head and cell by cell.
 use Prim.Native.Nat.{ℕ, _≤_, _<_}
 use mathlib.Core.List.{List, [], _∷_, _++_}
-use mathlib.Core.Path.{_≡_, refl, sym, ap, _∙_, subst}
-use mathlib.Core.Logic.{_≢_, _⊎_, inl, inr}
+use mathlib.Core.Path.{_≡_, refl, sym, ap, subst}
+use mathlib.Core.Logic.{_≢_, inl, inr}
 use native.Mathlib.Omega.{arith}
 use lib.ListN.{length, getD}
 use lib.Seq.{getD-set-same}
-use Rattle.rules.specs.declared.Version.{Version}
 use Rattle.rules.specs.declared.Answer.{Answer}
 use Rattle.rules.specs.Sizes.{Sizes}
 use Rattle.rules.specs.Cases.{byBool}
 use Rattle.rules.specs.Versions.{withXmax, withNext, unlocked, cellAt, versionAt}
-use Rattle.rules.specs.Slots.{Write, Slot, emptied}
+use Rattle.rules.specs.Slots.{Write, emptied}
 use Rattle.rules.specs.Memory.{Mem, sizeR, sizeN, headAt, slotAt, withSlot}
 use Rattle.rules.specs.Outcome.{Outcome, isCell}
 use Rattle.rules.specs.Commit.{publishAll, commitOut}
 use Rattle.rules.specs.Exactly.{In, All, all-map, NoneOf, eachOf, under, none-append, none-each, none-under}
 use Rattle.rules.specs.Terms.{Fitting, store-fits, CellOf, is-cell, LastEntry, NoEntry}
-use Rattle.rules.specs.CellLaws.{HasCell}
 use Rattle.rules.specs.Members.{all-in, in-all, in-append}
 use Rattle.rules.specs.SharedLines.{slotLines}
 use Rattle.rules.specs.CommitRefuses.{recordLines, baseLines, newLines, validLines, commitLines}
 use Rattle.rules.specs.CommitRefusedWhen.{Ready, is-ready}
 use Rattle.rules.specs.CommitAllOrNothing.{commit-accepted-leaves-exactly}
-use Rattle.rules.specs.Published.{From, Apart, HasCells, publish-all-meta, publish-all-slots, published-keeps-other-heads, published-moves-each-head, published-keeps-other-cells, published-marks-each-base, published-links-each-new}
+use Rattle.rules.specs.Published.{Apart, HasCells, publish-all-meta, publish-all-slots, published-keeps-other-heads, published-moves-each-head, published-keeps-other-cells, published-marks-each-base, published-links-each-new}
 
 module _ {z : Sizes} (m : Mem z) (s id : ℕ) (accepted : NoneOf (commitLines m s id)) where
   abbrev ws : List Write

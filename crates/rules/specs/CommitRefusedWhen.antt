@@ -2,22 +2,22 @@
 -- test fails, in write order.
 use Prim.Native.Nat.{ℕ, _≤_, _<_}
 use mathlib.Core.List.{List, [], _∷_, _++_}
-use mathlib.Core.Path.{_≡_, refl, sym, subst}
-use mathlib.Core.Logic.{_≢_, _↔_, Iff·trans, Iff·and, _⊎_, inl, inr, ⊎-elim}
+use mathlib.Core.Path.{_≡_, refl}
+use mathlib.Core.Logic.{_≢_, _↔_, Iff·trans, Iff·and, _⊎_, inl, inr}
 use native.Mathlib.Omega.{arith}
 use Rattle.rules.specs.declared.Answer.{Answer}
 use Rattle.rules.specs.Sizes.{Sizes}
-use Rattle.rules.specs.Numbers.{writeConflict, readConflict, damaged}
+use Rattle.rules.specs.Numbers.{writeConflict, readConflict}
 use Rattle.rules.specs.Cases.{byBool, byEq, byLe}
 use Rattle.rules.specs.Versions.{versionAt}
 use Rattle.rules.specs.Slots.{Write, Rec, Slot}
 use Rattle.rules.specs.Memory.{Mem, sizeR, sizeN, headAt, slotAt}
 use Rattle.rules.specs.Outcome.{isCell}
 use Rattle.rules.specs.Commit.{commitOut}
-use Rattle.rules.specs.Exactly.{All, all-map, Line, Refuses, NoneOf, eachOf, FirstOf, Lacks, under, inAnswer, refused-iff, refuses-past, refuses-before, refuses-each, refuses-under, none-append, none-each, lacks-append, lacks-each, lacks-under}
+use Rattle.rules.specs.Exactly.{All, all-map, Line, Refuses, NoneOf, eachOf, FirstOf, Lacks, under, inAnswer, refused-iff, refuses-past, refuses-before, refuses-each, refuses-under, none-each, lacks-each}
 use Rattle.rules.specs.Terms.{CellOf, is-cell, Conflicts}
 use Rattle.rules.specs.SharedLines.{slotLines, slots-lack}
-use Rattle.rules.specs.CommitRefuses.{recordLines, baseLines, newLines, validLines, commitLines, commit-refuses-exactly}
+use Rattle.rules.specs.CommitRefuses.{recordLines, baseLines, newLines, validLines, commit-refuses-exactly}
 
 module _ {z : Sizes} (m : Mem z) (s id : ℕ) where
   abbrev t : Slot

@@ -3,7 +3,7 @@
 use Prim.Native.Nat.{ℕ, _≤_, _<_}
 use mathlib.Core.List.{List, [], _∷_, _++_}
 use mathlib.Core.Path.{_≡_, refl}
-use mathlib.Core.Logic.{_≢_, _↔_, _⊎_}
+use mathlib.Core.Logic.{_≢_}
 use native.Mathlib.Omega.{arith}
 use Rattle.rules.specs.declared.Answer.{Answer}
 use Rattle.rules.specs.declared.Answer.the-variants.{Done}
@@ -12,7 +12,7 @@ use Rattle.rules.specs.Numbers.{writeConflict, readConflict, damaged}
 use Rattle.rules.specs.Versions.{versionAt}
 use Rattle.rules.specs.Slots.{Write, Rec, Slot, emptied}
 use Rattle.rules.specs.Memory.{Mem, sizeR, sizeN, headAt, slotAt, withSlot}
-use Rattle.rules.specs.Outcome.{Outcome, out, Test, guard, each, refuse, slotTests}
+use Rattle.rules.specs.Outcome.{Outcome, out, guard, each, refuse, slotTests}
 use Rattle.rules.specs.Commit.{recordTests, baseTests, newTests, commitTests, publishAll, commitOut}
 use Rattle.rules.specs.Exactly.{Line, line, eachOf, under, Says, Exactly, inAnswer, is-equal, is-less, is-most, is-not, is-nonzero, is-both, says-append, says-each, isRefusal, not-refused, not-under, guard-append, exactly-tested, exactly-guarded, exactly-accepted, exactly-under}
 use Rattle.rules.specs.Terms.{CellOf, is-cell, Conflicts, is-conflicting}

@@ -4,8 +4,8 @@
 use Prim.Native.Nat.{ℕ, _≤_, _<_}
 use mathlib.Core.List.{List, [], _∷_, _++_}
 use mathlib.Core.Option.{Option}
-use mathlib.Core.Path.{_≡_, refl, sym, ap, _∙_, subst}
-use mathlib.Core.Logic.{_≢_, _↔_, Iff·trans, Iff·and, _⊎_, inl, inr, ⊎-elim, ⊎-map}
+use mathlib.Core.Path.{_≡_, refl}
+use mathlib.Core.Logic.{_≢_, _↔_, Iff·trans, Iff·and, _⊎_, inl, inr, ⊎-elim}
 use native.Mathlib.Omega.{arith}
 use Rattle.rules.specs.declared.ReadAnswer.{ReadAnswer}
 use Rattle.rules.specs.declared.Answer.{Answer}
@@ -22,21 +22,21 @@ use Rattle.rules.specs.Commit.{commitOut}
 use Rattle.rules.specs.Abort.{abortOut}
 use Rattle.rules.specs.Vacuum.{vacuumOut}
 use Rattle.rules.specs.Chain.{tooLong, harmed}
-use Rattle.rules.specs.Exactly.{All, all-map, Line, Refuses, NoneOf, eachOf, FirstOf, under, inAnswer, inRead, refused-iff, refuses-append, refuses-past, refuses-before, refuses-each, refuses-under, none-append, none-each}
-use Rattle.rules.specs.Terms.{CellOf, LastEntry, NoEntry, entry-or-none, StoreDamaged}
-use Rattle.rules.specs.Along.{TooLong, Harmed, look-apart}
-use Rattle.rules.specs.SharedLines.{storeLines, slotLines, idAt, countAt, rowLine, rowLines}
+use Rattle.rules.specs.Exactly.{All, all-map, Refuses, NoneOf, eachOf, FirstOf, under, inAnswer, inRead, refused-iff, refuses-append, refuses-past, refuses-before, refuses-each, refuses-under, none-append, none-each}
+use Rattle.rules.specs.Terms.{CellOf, NoEntry, entry-or-none, StoreDamaged}
+use Rattle.rules.specs.Along.{Harmed, look-apart}
+use Rattle.rules.specs.SharedLines.{slotLines, idAt, countAt, rowLine, rowLines}
 use Rattle.rules.specs.CreateRefuses.{beginLines, begin-refuses-exactly}
-use Rattle.rules.specs.ReadRefuses.{lookNumber, sightLinesAt, readLines, read-refuses-exactly}
-use Rattle.rules.specs.WriteRefuses.{OwnHarmed, addLines, nowLines, writeLines, write-refuses-exactly}
+use Rattle.rules.specs.ReadRefuses.{sightLinesAt, read-refuses-exactly}
+use Rattle.rules.specs.WriteRefuses.{OwnHarmed, nowLines, write-refuses-exactly}
 use Rattle.rules.specs.WriteRefusedWhen.{HeadFine, fine}
-use Rattle.rules.specs.CommitRefuses.{recordLines, baseLines, newLines, validLines, commitLines, commit-refuses-exactly}
-use Rattle.rules.specs.CommitRefusedWhen.{cell-of, Stands, stands, stood, Ready, is-ready, ready-is, Validating}
-use Rattle.rules.specs.AbortRefuses.{undoLines, abortLines, abort-refuses-exactly}
+use Rattle.rules.specs.CommitRefuses.{recordLines, baseLines, newLines, validLines, commit-refuses-exactly}
+use Rattle.rules.specs.CommitRefusedWhen.{cell-of, Stands, stands, stood, Ready, is-ready, ready-is}
+use Rattle.rules.specs.AbortRefuses.{undoLines, abort-refuses-exactly}
 use Rattle.rules.specs.VacuumRefuses.{vacuumLines, vacuum-refuses-exactly}
 
 -- an if-and-only-if on each side of an or
-either-iff : {A B C D : Type 0} → A ↔ C → B ↔ D → (A ⊎ B) ↔ (C ⊎ D)
+pub either-iff : {A B C D : Type 0} → A ↔ C → B ↔ D → (A ⊎ B) ↔ (C ⊎ D)
 either-iff h k = (⊎-elim (λ a. inl (h .0 a)) (λ b. inr (k .0 b)), ⊎-elim (λ c. inl (h .1 c)) (λ d. inr (k .1 d)))
 
 module _ {z : Sizes} (m : Mem z) where
@@ -58,7 +58,7 @@ module _ {z : Sizes} (m : Mem z) where
     abbrev pub SlotDamaged : Type 0
     SlotDamaged = StoreDamaged m ⊎ ((StoreDamaged m → ⊥) × (s < z .slots) × (id ≢ 0) × (id ≡ idAt m s) × CountAbove)
 
-    slot-15 : (x : ℕ) → Refuses (slotLines m s id) damaged x ↔ (SlotDamaged × (x ≡ 0))
+    pub slot-15 : (x : ℕ) → Refuses (slotLines m s id) damaged x ↔ (SlotDamaged × (x ≡ 0))
     slot-15 x = (to, λ q. from-slot (q .0) (q .1))
       where
         to : Refuses (slotLines m s id) damaged x → SlotDamaged × (x ≡ 0)

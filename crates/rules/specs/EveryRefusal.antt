@@ -2,29 +2,27 @@
 -- counts, row, then the call's steps as told." Then 4, 5, 6, 3 and 2, each alone.
 use Prim.Native.Nat.{ℕ, _≤_, _<_}
 use mathlib.Core.List.{List, [], _∷_, _++_}
-use mathlib.Core.Option.{Option}
-use mathlib.Core.Path.{_≡_, refl, sym, ap, _∙_, subst}
-use mathlib.Core.Logic.{_≢_, _↔_, Iff·trans, Iff·and, _⊎_, inl, inr}
+use mathlib.Core.Path.{_≡_, refl, subst}
+use mathlib.Core.Logic.{_≢_, _↔_, Iff·trans, _⊎_, inl, inr}
 use native.Mathlib.Omega.{arith}
 use Rattle.rules.specs.declared.ReadAnswer.{ReadAnswer}
 use Rattle.rules.specs.declared.Answer.{Answer}
 use Rattle.rules.specs.Sizes.{Sizes, lastId}
-use Rattle.rules.specs.Numbers.{badSize, clockSpent, noFreeSlot, badSlot, notOwner, badRow}
+use Rattle.rules.specs.Numbers.{badSize, clockSpent, noFreeSlot, badSlot, notOwner}
 use Rattle.rules.specs.Cases.{byLe}
 use Rattle.rules.specs.Memory.{Mem, sizeR, clock, slotAt}
 use Rattle.rules.specs.Lookup.{ownRows, rowsToRead}
 use Rattle.rules.specs.Lists.{from}
-use Rattle.rules.specs.Slots.{Rec}
 use Rattle.rules.specs.Run.{Call, create, begin, read, write, commit, abort, vacuum, lookup, lookupAll, Reply, looked, gave, swept, step}
-use Rattle.rules.specs.Exactly.{Line, Refuses, NoneOf, Lacks, eachOf, under, FirstLine, inAnswer, inRead, refused-iff, refuses-first-line, refuses-before, lacks-append, lacks-each, lacks-under}
+use Rattle.rules.specs.Exactly.{Line, Refuses, Lacks, eachOf, under, FirstLine, inAnswer, inRead, refused-iff, refuses-first-line, refuses-before, lacks-append, lacks-each, lacks-under}
 use Rattle.rules.specs.Terms.{Fitting, StoreDamaged, AllOccupied}
-use Rattle.rules.specs.SharedLines.{storeLines, slotLines, idAt, rowLine, rowLines}
+use Rattle.rules.specs.SharedLines.{slotLines, idAt, rowLine}
 use Rattle.rules.specs.CreateRefuses.{createLines, create-refuses-exactly, beginLines, begin-refuses-exactly}
 use Rattle.rules.specs.ReadRefuses.{sightLinesAt, readLines, read-refuses-exactly}
-use Rattle.rules.specs.WriteRefuses.{addLines, nowLines, writeLines, write-refuses-exactly}
+use Rattle.rules.specs.WriteRefuses.{nowLines, writeLines, write-refuses-exactly}
 use Rattle.rules.specs.CommitRefuses.{recordLines, baseLines, newLines, validLines, commitLines, commit-refuses-exactly}
 use Rattle.rules.specs.AbortRefuses.{undoLines, abortLines, abort-refuses-exactly}
-use Rattle.rules.specs.VacuumRefuses.{walkLines, vacuumLines, vacuum-refuses-exactly}
+use Rattle.rules.specs.VacuumRefuses.{vacuumLines, vacuum-refuses-exactly}
 use Rattle.rules.specs.LookupRefuses.{findLines, find-lacks, candidateLines, ownRowLines, lookupLines, lookup-refuses-exactly, lookupAllLines, lookup-all-refuses-exactly}
 
 -- the reply is a refusal with number k and value x

@@ -2,8 +2,8 @@
 -- refuses with the number of the first line whose condition holds; a later line applies only where no earlier one does. What is
 -- proved of a call is that it refuses exactly so, and changes nothing then. The conditions are propositions; that each test of the
 -- definition decides its line's condition is shown test by test, and the rest of the proof is the same for every call.
-use Prim.Native.Nat.{ℕ, zero, suc, _≤_, _<_}
-use mathlib.Core.Bool.{Bool, true, false, not, _&&_, _||_, cond}
+use Prim.Native.Nat.{ℕ, _≤_, _<_}
+use mathlib.Core.Bool.{Bool, true, false, not, _&&_, _||_}
 use mathlib.Core.List.{List, [], _∷_, _++_, append-nil}
 use mathlib.Core.Path.{_≡_, refl, sym, ap, _∙_, subst}
 use mathlib.Core.Logic.{_≢_, _↔_, _⊎_, inl, inr, ⊎-elim}
@@ -17,7 +17,7 @@ use Rattle.rules.specs.Sizes.{Sizes}
 use Rattle.rules.specs.Lists.{nonzero, has}
 use Rattle.rules.specs.Cases.{byBool, no-both}
 use Rattle.rules.specs.Memory.{Mem}
-use Rattle.rules.specs.Outcome.{Outcome, out, Test, test, guard, each, refuse}
+use Rattle.rules.specs.Outcome.{Outcome, out, Test, guard, each, refuse}
 
 -- ---- tables
 

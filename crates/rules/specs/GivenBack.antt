@@ -1,16 +1,14 @@
 -- "a cell given back is the next handed out, all fields cleared but the free link"
-use Prim.Native.Nat.{ℕ, zero, suc, _-_, _≤_, _<_}
-use mathlib.Core.List.{List, [], _∷_, _++_}
-use mathlib.Core.Path.{_≡_, refl, sym, ap, _∙_, subst}
-use mathlib.Core.Logic.{_≢_, _⊎_, inl, inr}
-use native.Mathlib.Omega.{arith}
-use lib.ListN.{length, getD, set, length-set}
+use Prim.Native.Nat.{ℕ, _≤_, _<_}
+use mathlib.Core.List.{List, [], _∷_}
+use mathlib.Core.Path.{_≡_, refl, ap, _∙_}
+use mathlib.Core.Logic.{_≢_, inl, inr}
+use lib.ListN.{length, getD}
 use lib.Seq.{getD-set-same, getD-set-other}
-use Rattle.rules.specs.Sizes.{Sizes, CELLS, FREE}
+use Rattle.rules.specs.Sizes.{Sizes, FREE}
 use Rattle.rules.specs.Lists.{fold}
-use Rattle.rules.specs.Cases.{byEq}
-use Rattle.rules.specs.Versions.{versionOf, emptyVersion, cellAt, versionAt, linkAt, putCell}
-use Rattle.rules.specs.Memory.{Mem, sizeR, sizeN, clock, free, headAt}
+use Rattle.rules.specs.Versions.{versionOf, emptyVersion, cellAt, versionAt, linkAt}
+use Rattle.rules.specs.Memory.{Mem, free}
 use Rattle.rules.specs.Abort.{giveBack}
 use Rattle.rules.specs.CellLaws.{HasCell, length-put, put-on, put-link, put-else}
 use Rattle.rules.specs.Exactly.{In, All, all-map}

@@ -1,32 +1,30 @@
 -- "Cells are handed out 1, 2, 3..; a cell given back is the next handed out": the free list, spelled by the links, after a creation,
 -- after a write that takes a cell, and after cells are given back.
 use Prim.Native.Nat.{ℕ, zero, suc, _+_, _-_, _≤_, _<_}
-use mathlib.Core.Bool.{true, false, cond}
-use mathlib.Core.List.{List, [], _∷_, _++_, reverseAux}
-use mathlib.Core.Option.{Option, none, some}
+use mathlib.Core.Bool.{cond}
+use mathlib.Core.List.{List, [], _∷_, reverseAux}
+use mathlib.Core.Option.{Option}
 use mathlib.Core.Path.{_≡_, refl, sym, ap, _∙_, subst}
-use mathlib.Core.Logic.{_≢_, _⊎_, inl, inr}
+use mathlib.Core.Logic.{_≢_, inl, inr}
 use native.Mathlib.Omega.{arith}
-use lib.ListN.{length, getD, set, take, drop, length-set, List·getD-append}
-use lib.Seq.{sets, sets-eq, getD-set-same, getD-set-other}
+use lib.ListN.{length, getD, drop, length-set, List·getD-append}
+use lib.Seq.{sets, sets-eq, getD-set-same}
 use lib.Dec.{eqb}
 use borrow.Author.Tests.{eq-eqb, ne-eqb}
-use Rattle.rules.specs.declared.Version.{Version}
-use Rattle.rules.specs.declared.Answer.{Answer}
 use Rattle.rules.specs.declared.Answer.the-variants.{Wrote}
 use Rattle.rules.specs.Sizes.{Sizes, FREE}
 use Rattle.rules.specs.Cases.{byEq, byLe}
 use Rattle.rules.specs.Lists.{fold, from}
-use Rattle.rules.specs.Versions.{at, emptyVersion, lockedFor, newVersion, versionOf, wordsOf, cellAt, versionAt, linkAt, putCell, putVersion}
+use Rattle.rules.specs.Versions.{at, emptyVersion, lockedFor, newVersion, wordsOf, cellAt, versionAt, linkAt, putCell}
 use Rattle.rules.specs.Memory.{Mem, sizeR, sizeN, free, headAt, slotAt}
-use Rattle.rules.specs.Outcome.{Outcome, out}
+use Rattle.rules.specs.Outcome.{out}
 use Rattle.rules.specs.Create.{freshCells, created}
 use Rattle.rules.specs.Write.{lockBase, prepared, writeOut}
 use Rattle.rules.specs.Abort.{giveBack}
 use Rattle.rules.specs.Exactly.{In, All, all-map, NoneOf, none-append, none-under}
 use Rattle.rules.specs.Terms.{Fitting, store-fits, NoEntry}
 use Rattle.rules.specs.Along.{positive}
-use Rattle.rules.specs.CellLaws.{HasCell, cell-index, length-put, put-link, put-else}
+use Rattle.rules.specs.CellLaws.{HasCell, length-put, put-link, put-else}
 use Rattle.rules.specs.Members.{Once}
 use Rattle.rules.specs.GivenBack.{giveAll, given-back-is-next, given-back-links-to-the-next-before, give-back-else}
 use Rattle.rules.specs.SharedLines.{rowLines}

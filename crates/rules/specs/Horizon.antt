@@ -1,18 +1,16 @@
 -- "Horizon: least of the request, the clock and the snapshot xmin of all occupied slots": at most each of them, and equal to one.
 use Prim.Native.Nat.{ℕ, zero, suc, min, _≤_, _<_}
-use mathlib.Core.List.{List, [], _∷_, _++_}
-use mathlib.Core.Path.{_≡_, refl, sym, ap, _∙_, subst}
+use mathlib.Core.List.{List, [], _∷_}
+use mathlib.Core.Path.{_≡_, refl, _∙_}
 use mathlib.Core.Logic.{_≢_, _↔_, _⊎_, inl, inr, ⊎-elim}
 use native.Mathlib.Omega.{arith}
-use lib.ListN.{length, getD, take}
-use lib.Dec.{eqb}
+use lib.ListN.{length, getD}
 use borrow.Author.Tests.{eq-eqb, ne-eqb}
-use Rattle.rules.specs.Sizes.{Sizes, ID, LOW}
+use Rattle.rules.specs.Sizes.{ID, LOW}
 use Rattle.rules.specs.Lists.{least}
 use Rattle.rules.specs.Cases.{byEq, byLe}
-use Rattle.rules.specs.Memory.{Mem, clock}
-use Rattle.rules.specs.Snapshot.{occupied, horizonOf, horizon}
-use Rattle.rules.specs.Exactly.{In, All}
+use Rattle.rules.specs.Snapshot.{occupied, horizonOf}
+use Rattle.rules.specs.Exactly.{In}
 
 -- ---- the least of a list and a ceiling
 

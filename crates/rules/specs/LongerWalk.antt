@@ -1,9 +1,9 @@
 -- "Walk limit 64: a 65th version is never looked at": of two limits, the longer changes no answer that the shorter gave. Only a refusal
 -- 10 of the shorter may turn into something else.
-use Prim.Native.Nat.{ℕ, _≤_, _<_}
+use Prim.Native.Nat.{ℕ, _≤_}
 use mathlib.Core.List.{List, [], _∷_, _++_}
 use mathlib.Core.Option.{Option, none, some}
-use mathlib.Core.Path.{_≡_, refl, sym, ap, _∙_, subst}
+use mathlib.Core.Path.{_≡_, refl, sym, _∙_}
 use mathlib.Core.Logic.{_≢_, _⊎_, inl, inr}
 use native.Mathlib.Omega.{arith}
 use Rattle.rules.specs.declared.Version.{Version}
@@ -15,9 +15,9 @@ use Rattle.rules.specs.Versions.{versionAt}
 use Rattle.rules.specs.Slots.{Write, Rec, Slot, slotOf}
 use Rattle.rules.specs.Memory.{Mem, mem, sizeN, headAt, slotAt}
 use Rattle.rules.specs.Chain.{Look, found, nothing, tooLong, harmed, look}
-use Rattle.rules.specs.Outcome.{Outcome, out, Test, guard, refuseRead, fits, storeTests, slotTests, rowTest}
+use Rattle.rules.specs.Outcome.{Outcome, Test, guard, refuseRead, fits, storeTests, slotTests, rowTest}
 use Rattle.rules.specs.Read.{own, answerAt, Sight, blocked, sees, sightOf, ownSight, readRow, readEnd, readOut}
-use Rattle.rules.specs.Along.{FirstSeen, NoneSeen, Harmed, LookIs, look-is, is-look}
+use Rattle.rules.specs.Along.{LookIs, look-is, is-look}
 use Rattle.rules.specs.ReadRefuses.{SightIs, sight-is}
 
 -- z with another walk limit

@@ -1,19 +1,17 @@
 -- "the rows with that key are listed ascending": which rows an accepted lookup lists. What a row's read finds does not hang on the
 -- records, so the rows listed are those read whose found version has the key, in the order in which they are read.
-use Prim.Native.Nat.{ℕ, _≤_, _<_}
+use Prim.Native.Nat.{ℕ}
 use mathlib.Core.List.{List, [], _∷_, _++_, append-nil, append-assoc}
 use mathlib.Core.Option.{Option, none, some}
 use mathlib.Core.Path.{_≡_, refl, sym, ap, _∙_, subst}
-use mathlib.Core.Logic.{_≢_, _⊎_, inl, inr, ⊎-elim}
-use native.Mathlib.Omega.{arith}
+use mathlib.Core.Logic.{inl, inr}
 use lib.ListN.{length}
-use Rattle.rules.specs.declared.Version.{Version}
 use Rattle.rules.specs.declared.Answer.{Answer}
 use Rattle.rules.specs.declared.Answer.the-variants.{Listed}
 use Rattle.rules.specs.Sizes.{Sizes}
 use Rattle.rules.specs.Lists.{from}
 use Rattle.rules.specs.Versions.{versionAt}
-use Rattle.rules.specs.Slots.{Write, Rec, Slot}
+use Rattle.rules.specs.Slots.{Write, Rec}
 use Rattle.rules.specs.Memory.{Mem, sizeR, sizeN, headAt, slotAt}
 use Rattle.rules.specs.Chain.{Look, found, nothing, tooLong, harmed, look}
 use Rattle.rules.specs.Outcome.{Outcome}
@@ -22,10 +20,10 @@ use Rattle.rules.specs.Lookup.{rowsToRead, lookupOut, lookupAllOut}
 use Rattle.rules.specs.Exactly.{NoneOf}
 use Rattle.rules.specs.Terms.{LastEntry, NoEntry, is-own}
 use Rattle.rules.specs.Along.{FirstSeen, NoneSeen, is-look}
-use Rattle.rules.specs.ReadRefuses.{Reads, ownWrite, noVersion, again, newly}
+use Rattle.rules.specs.ReadRefuses.{ownWrite, noVersion, again, newly}
 use Rattle.rules.specs.VacuumRefuses.{Picks}
 use Rattle.rules.specs.LookupRefuses.{HoldsKey, lookupLines, lookupAllLines}
-use Rattle.rules.specs.LookupRows.{Ascending, picks-ascending, rows-are-read-in-ascending-order, all-rows-are-read}
+use Rattle.rules.specs.LookupRows.{Ascending, picks-ascending}
 use Rattle.rules.specs.OneOutcome.{RowReads, Lists, listed, of-rows, of-all-rows, lookup-meets, lookup-all-meets}
 
 module _ {z : Sizes} (m : Mem z) (s : ℕ) where

@@ -3,24 +3,25 @@
 use Prim.Native.Nat.{ℕ, _≤_, _<_}
 use mathlib.Core.List.{List, [], _∷_, _++_}
 use mathlib.Core.Path.{_≡_, refl, sym, ap, _∙_, subst}
-use mathlib.Core.Logic.{_≢_, _↔_, Iff·trans, Iff·and, _⊎_, inl, inr, ⊎-elim}
+use mathlib.Core.Logic.{_↔_, Iff·trans, Iff·and, _⊎_, inl, inr, ⊎-elim}
 use native.Mathlib.Omega.{arith}
 use lib.ListN.{length}
 use Rattle.rules.specs.declared.Answer.{Answer}
 use Rattle.rules.specs.Sizes.{Sizes}
-use Rattle.rules.specs.Numbers.{badRow, chainTooLong, readSetFull, resultFull, damaged}
+use Rattle.rules.specs.Numbers.{badRow, resultFull, damaged}
 use Rattle.rules.specs.Cases.{byBool, byLe}
 use Rattle.rules.specs.Lists.{from}
 use Rattle.rules.specs.Versions.{versionAt}
-use Rattle.rules.specs.Slots.{Write, Rec, Slot}
+use Rattle.rules.specs.Slots.{Rec}
 use Rattle.rules.specs.Memory.{Mem, sizeR, sizeN, headAt, slotAt}
-use Rattle.rules.specs.Read.{answerAt, Sight, blocked, sees, readAt}
+use Rattle.rules.specs.Read.{answerAt, Sight, blocked, sees}
 use Rattle.rules.specs.Lookup.{isKey, ownRows, rowsToRead, lookupOut, lookupAllOut}
-use Rattle.rules.specs.Exactly.{All, all-map, Line, Refuses, NoneOf, eachOf, FirstOf, Lacks, inAnswer, refused-iff, refuses-append, refuses-past, refuses-before, refuses-each, none-append, none-each, none-refuses, lacks-append, lacks-each, holds-true, fails-false}
+use Rattle.rules.specs.Exactly.{In, All, all-map, Line, Refuses, NoneOf, eachOf, FirstOf, inAnswer, refused-iff, refuses-append, refuses-past, refuses-before, refuses-each, none-append, none-refuses, lacks-append, lacks-each}
 use Rattle.rules.specs.SharedLines.{slotLines, slots-lack}
+use Rattle.rules.specs.DamagedWhen.{SlotDamaged, slot-15, either-iff}
 use Rattle.rules.specs.ReadRefuses.{SightIs, sight-is, reads-is}
-use Rattle.rules.specs.LookupRefuses.{HoldsKey, is-key, RowHolds, sightLinesOf, fullLine, findLines, find-lacks, candidateLines, ownRowLines, lookupLines, lookup-refuses-exactly, lookupAllLines, lookup-all-refuses-exactly}
-use Rattle.rules.specs.OneOutcome.{RowReads, Lists, sightAt, restLines, linesOf}
+use Rattle.rules.specs.LookupRefuses.{HoldsKey, is-key, RowHolds, sightLinesOf, fullLine, findLines, find-lacks, candidateLines, ownRowLines, lookup-refuses-exactly, lookup-all-refuses-exactly}
+use Rattle.rules.specs.OneOutcome.{RowReads, Lists, sightAt, restLines}
 
 -- ---- 6
 
@@ -70,6 +71,23 @@ module _ {z : Sizes} (m : Mem z) (s id key : ℕ) (cands : List ℕ) (room : ℕ
       (Iff·trans
       (refuses-past badRow x (slotLines m s id) (eachOf (candidateLines m) cands) (λ e. omega arith, (λ e. omega arith, (λ e. omega arith, (λ e. omega arith, tt)))))
       (Iff·and (λ e. e, λ e. e) (Iff·trans (refuses-each badRow x (candidateLines m) cands) (above-of x)))))
+
+-- ---- 15 for an own row
+
+own-row-to : {z : Sizes} (m : Mem z) (l : List ℕ) (x : ℕ) → Refuses (eachOf (ownRowLines m) l) damaged x → ((r : ℕ) × In r l × (sizeR m ≤ r)) × (x ≡ 0)
+own-row-to m [] x q = absurd q
+own-row-to m (r ∷ l) x (inl q) = ((r, inl refl, q .0), q .2)
+own-row-to m (r ∷ l) x (inr q) =
+    let i = own-row-to m l x (q .1) in
+    ((i .0 .0, inr (i .0 .1), i .0 .2), i .1)
+
+own-row-from : {z : Sizes} (m : Mem z) (l : List ℕ) (x r : ℕ) → In r l → sizeR m ≤ r → x ≡ 0 → Refuses (eachOf (ownRowLines m) l) damaged x
+own-row-from m [] x r i b e = absurd i
+own-row-from m (q ∷ l) x r (inl y) b e = inl (rw (← y) b, refl, e)
+own-row-from m (q ∷ l) x r (inr i) b e = byLe (sizeR m) q (λ h. inl (h, refl, e)) (λ h. inr ((λ y. omega (arith, y)), own-row-from m l x r i b e))
+
+own-row-15 : {z : Sizes} (m : Mem z) (l : List ℕ) (x : ℕ) → Refuses (eachOf (ownRowLines m) l) damaged x ↔ (((r : ℕ) × In r l × (sizeR m ≤ r)) × (x ≡ 0))
+own-row-15 m l x = (own-row-to m l x, λ q. own-row-from m l x (q .0 .0) (q .0 .1) (q .0 .2) (q .1))
 
 -- ---- the first trouble
 
@@ -225,28 +243,64 @@ module _ {z : Sizes} (m : Mem z) (s key room : ℕ) where
             trouble = refuses-append resultFull x (sight (q .row) (q .recs)) (full (q .row) (q .recs) (q .rows) ∷ []) .1 (inr (q .readable, inl ((q .holds, q .filled), refl, e)));
           }
 
-  pub fourteen : (l : List ℕ) (x : ℕ) → Refuses (lines [] [] l) resultFull x ↔ (FirstUnplaced l × (x ≡ 0))
-  fourteen l x = Iff·trans (lookup-stops-at-the-first-trouble l resultFull x) (unplaced l x)
+-- 10, 13 and 14 come from the first trouble in row order
+pub lookup-refused-within-the-rows : {z : Sizes} (m : Mem z) (s id key : ℕ) (cands : List ℕ) (room k x : ℕ) → (6 < k) × (k < 15) →
+    (lookupOut m s id key cands room .answer ≡ Answer.Refused k x) ↔ (NoneOf (slotLines m s id ++ eachOf (candidateLines m) cands) × FirstTrouble m s key room [] [] (rowsToRead m (slotAt m s .writes) cands) k x)
+lookup-refused-within-the-rows m s id key cands room k x b =
+    let l = rowsToRead m (slotAt m s .writes) cands in
+    let rows = findLines m (slotAt m s) key room [] [] l in
+    let late = eachOf (ownRowLines m) (ownRows (slotAt m s .writes)) in
+    Iff·trans (refused-iff inAnswer m _ _ _ (lookup-refuses-exactly m s id key cands room) k x)
+    (Iff·trans
+    (refuses-past k x (slotLines m s id ++ eachOf (candidateLines m) cands) (rows ++ late)
+    (lacks-append k (slotLines m s id) (eachOf (candidateLines m) cands) (slots-lack m s id k b) (lacks-each k (candidateLines m) (λ r. ((λ e. omega (arith, e, b .0)), tt)) cands)))
+    (Iff·and (λ e. e, λ e. e)
+    (Iff·trans (refuses-before k x rows late (lacks-each k (ownRowLines m) (λ r. ((λ e. omega (arith, e, b .1)), tt)) (ownRows (slotAt m s .writes)))) (lookup-stops-at-the-first-trouble m s key room l k x))))
+
+-- the same of all rows
+pub lookup-all-refused-within-the-rows : {z : Sizes} (m : Mem z) (s id key room k x : ℕ) → (6 < k) × (k < 15) →
+    (lookupAllOut m s id key room .answer ≡ Answer.Refused k x) ↔ (NoneOf (slotLines m s id) × FirstTrouble m s key room [] [] (from 0 (sizeR m)) k x)
+lookup-all-refused-within-the-rows m s id key room k x b =
+    let rows = findLines m (slotAt m s) key room [] [] (from 0 (sizeR m)) in
+    Iff·trans (refused-iff inAnswer m _ _ _ (lookup-all-refuses-exactly m s id key room) k x)
+    (Iff·trans (refuses-past k x (slotLines m s id) (rows ++ []) (slots-lack m s id k b))
+    (Iff·and (λ e. e, λ e. e) (Iff·trans (refuses-before k x rows [] tt) (lookup-stops-at-the-first-trouble m s key room (from 0 (sizeR m)) k x))))
 
 -- 14: "list longer than its buffer", of the candidates and own rows
 pub lookup-refused-14-exactly-when : {z : Sizes} (m : Mem z) (s id key : ℕ) (cands : List ℕ) (room x : ℕ) →
     (lookupOut m s id key cands room .answer ≡ Answer.Refused resultFull x) ↔ (NoneOf (slotLines m s id ++ eachOf (candidateLines m) cands) × (FirstUnplaced m s key room (rowsToRead m (slotAt m s .writes) cands) × (x ≡ 0)))
-lookup-refused-14-exactly-when m s id key cands room x =
-    let l = rowsToRead m (slotAt m s .writes) cands in
-    let rows = findLines m (slotAt m s) key room [] [] l in
-    let late = eachOf (ownRowLines m) (ownRows (slotAt m s .writes)) in
-    Iff·trans (refused-iff inAnswer m _ _ _ (lookup-refuses-exactly m s id key cands room) resultFull x)
-    (Iff·trans
-    (refuses-past resultFull x (slotLines m s id ++ eachOf (candidateLines m) cands) (rows ++ late)
-    (lacks-append resultFull (slotLines m s id) (eachOf (candidateLines m) cands) (slots-lack m s id resultFull (omega arith)) (lacks-each resultFull (candidateLines m) (λ r. (λ e. omega arith, tt)) cands)))
-    (Iff·and (λ e. e, λ e. e)
-    (Iff·trans (refuses-before resultFull x rows late (lacks-each resultFull (ownRowLines m) (λ r. (λ e. omega arith, tt)) (ownRows (slotAt m s .writes)))) (fourteen m s key room l x))))
+lookup-refused-14-exactly-when m s id key cands room x = Iff·trans (lookup-refused-within-the-rows m s id key cands room resultFull x (omega arith)) (Iff·and (λ e. e, λ e. e) (unplaced m s key room (rowsToRead m (slotAt m s .writes) cands) x))
 
 -- 14 of all rows
 pub lookup-all-refused-14-exactly-when : {z : Sizes} (m : Mem z) (s id key room x : ℕ) →
     (lookupAllOut m s id key room .answer ≡ Answer.Refused resultFull x) ↔ (NoneOf (slotLines m s id) × (FirstUnplaced m s key room (from 0 (sizeR m)) × (x ≡ 0)))
-lookup-all-refused-14-exactly-when m s id key room x =
+lookup-all-refused-14-exactly-when m s id key room x = Iff·trans (lookup-all-refused-within-the-rows m s id key room resultFull x (omega arith)) (Iff·and (λ e. e, λ e. e) (unplaced m s key room (from 0 (sizeR m)) x))
+
+-- 15 of a lookup: the head of the call; or the first trouble in row order; or, no row below R having any, an own row at R or above, which
+-- would be read last
+pub lookup-refused-15-exactly-when : {z : Sizes} (m : Mem z) (s id key : ℕ) (cands : List ℕ) (room x : ℕ) →
+    (lookupOut m s id key cands room .answer ≡ Answer.Refused damaged x)
+    ↔ ((SlotDamaged m s id × (x ≡ 0))
+    ⊎ (NoneOf (slotLines m s id ++ eachOf (candidateLines m) cands)
+    × (FirstTrouble m s key room [] [] (rowsToRead m (slotAt m s .writes) cands) damaged x
+    ⊎ (NoneOf (findLines m (slotAt m s) key room [] [] (rowsToRead m (slotAt m s .writes) cands)) × (((r : ℕ) × In r (ownRows (slotAt m s .writes)) × (sizeR m ≤ r)) × (x ≡ 0))))))
+lookup-refused-15-exactly-when m s id key cands room x =
+    let l = rowsToRead m (slotAt m s .writes) cands in
+    let rows = findLines m (slotAt m s) key room [] [] l in
+    let late = eachOf (ownRowLines m) (ownRows (slotAt m s .writes)) in
+    Iff·trans (refused-iff inAnswer m _ _ _ (lookup-refuses-exactly m s id key cands room) damaged x)
+    (Iff·trans (refuses-append damaged x (slotLines m s id ++ eachOf (candidateLines m) cands) (rows ++ late))
+    (either-iff
+    (Iff·trans (refuses-before damaged x (slotLines m s id) (eachOf (candidateLines m) cands) (lacks-each damaged (candidateLines m) (λ r. (λ e. omega arith, tt)) cands)) (slot-15 m s id x))
+    (Iff·and (λ e. e, λ e. e)
+    (Iff·trans (refuses-append damaged x rows late)
+    (either-iff (lookup-stops-at-the-first-trouble m s key room l damaged x) (Iff·and (λ e. e, λ e. e) (own-row-15 m (ownRows (slotAt m s .writes)) x)))))))
+
+-- 15 of a lookup over all rows
+pub lookup-all-refused-15-exactly-when : {z : Sizes} (m : Mem z) (s id key room x : ℕ) →
+    (lookupAllOut m s id key room .answer ≡ Answer.Refused damaged x) ↔ ((SlotDamaged m s id × (x ≡ 0)) ⊎ (NoneOf (slotLines m s id) × FirstTrouble m s key room [] [] (from 0 (sizeR m)) damaged x))
+lookup-all-refused-15-exactly-when m s id key room x =
     let rows = findLines m (slotAt m s) key room [] [] (from 0 (sizeR m)) in
-    Iff·trans (refused-iff inAnswer m _ _ _ (lookup-all-refuses-exactly m s id key room) resultFull x)
-    (Iff·trans (refuses-past resultFull x (slotLines m s id) (rows ++ []) (slots-lack m s id resultFull (omega arith)))
-    (Iff·and (λ e. e, λ e. e) (Iff·trans (refuses-before resultFull x rows [] tt) (fourteen m s key room (from 0 (sizeR m)) x))))
+    Iff·trans (refused-iff inAnswer m _ _ _ (lookup-all-refuses-exactly m s id key room) damaged x)
+    (Iff·trans (refuses-append damaged x (slotLines m s id) (rows ++ []))
+    (either-iff (slot-15 m s id x) (Iff·and (λ e. e, λ e. e) (Iff·trans (refuses-before damaged x rows [] tt) (lookup-stops-at-the-first-trouble m s key room (from 0 (sizeR m)) damaged x)))))

@@ -1,27 +1,23 @@
 -- A lookup refuses exactly when the paper says: "lookup stops at the first trouble in row order, 14 last within a row".
 use Prim.Native.Nat.{ℕ, _≤_, _<_}
-use mathlib.Core.Bool.{Bool, true, false, cond}
+use mathlib.Core.Bool.{true, false, cond}
 use mathlib.Core.List.{List, [], _∷_, _++_}
-use mathlib.Core.Path.{_≡_, refl, sym, ap, _∙_, subst}
-use mathlib.Core.Logic.{_≢_, _⊎_, inl, inr}
+use mathlib.Core.Path.{_≡_, refl, sym, _∙_, subst}
+use mathlib.Core.Logic.{_≢_, inl, inr}
 use native.Mathlib.Omega.{arith}
 use lib.ListN.{length}
-use lib.Dec.{eqb, leb}
+use lib.Dec.{leb}
 use borrow.Author.Tests.{eq-eqb, ne-eqb}
 use Rattle.rules.specs.declared.Version.{Version}
-use Rattle.rules.specs.declared.ReadAnswer.{ReadAnswer}
-use Rattle.rules.specs.declared.ReadAnswer.the-variants.{None, Empty, Key}
-use Rattle.rules.specs.declared.Answer.{Answer}
-use Rattle.rules.specs.declared.Answer.the-variants.{Listed}
 use Rattle.rules.specs.Sizes.{Sizes}
 use Rattle.rules.specs.Numbers.{resultFull, damaged}
-use Rattle.rules.specs.Lists.{nonzero, fold, from}
+use Rattle.rules.specs.Lists.{fold, from}
 use Rattle.rules.specs.Cases.{byBool, byEq, no-both}
 use Rattle.rules.specs.Versions.{versionAt}
-use Rattle.rules.specs.Slots.{Write, Rec, Slot, addRecs}
-use Rattle.rules.specs.Memory.{Mem, sizeR, sizeN, headAt, wordsAt, slotAt, withSlot}
-use Rattle.rules.specs.Outcome.{Outcome, out, Test, guard, each, refuse, slotTests}
-use Rattle.rules.specs.Read.{answerAt, Sight, blocked, sees, readRow, readAt}
+use Rattle.rules.specs.Slots.{Rec, Slot}
+use Rattle.rules.specs.Memory.{Mem, sizeR, sizeN, headAt, slotAt}
+use Rattle.rules.specs.Outcome.{Test, guard, each, slotTests}
+use Rattle.rules.specs.Read.{answerAt, Sight, blocked, sees, readAt}
 use Rattle.rules.specs.Lookup.{Found, stopped, got, isKey, ownRows, listRow, findRow, find, lookupEnd, candidateTests, ownRowTests, rowsToRead, lookupOut, lookupAllOut}
 use Rattle.rules.specs.Exactly.{Line, line, eachOf, Lacks, NoneOf, Refuses, Says, Reflects, Exactly, inAnswer, is-most, says-append, says-each, exactly-tested, exactly-guarded, exactly-blocked, exactly-past, refuses-append, none-append}
 use Rattle.rules.specs.SharedLines.{slotLines, slot-says, rowLine}

@@ -1,18 +1,16 @@
 -- "candidates (any order, repeats allowed) and own written rows are read in ascending order, each once": which rows a lookup reads.
 use Prim.Native.Nat.{ℕ, zero, suc, _+_, _≤_, _<_}
-use mathlib.Core.Bool.{Bool, _||_}
-use mathlib.Core.List.{List, [], _∷_, _++_}
-use mathlib.Core.Path.{_≡_, refl, sym, ap, _∙_, subst}
+use mathlib.Core.Bool.{_||_}
+use mathlib.Core.List.{List, [], _∷_}
 use mathlib.Core.Logic.{_≢_, _↔_, _⊎_, inl, inr, ⊎-elim}
 use native.Mathlib.Omega.{arith}
-use lib.ListN.{length}
 use Rattle.rules.specs.Sizes.{Sizes}
-use Rattle.rules.specs.Lists.{has, keep, from}
+use Rattle.rules.specs.Lists.{has, from}
 use Rattle.rules.specs.Cases.{byEq}
 use Rattle.rules.specs.Slots.{Write}
 use Rattle.rules.specs.Memory.{Mem, sizeR}
 use Rattle.rules.specs.Lookup.{ownRows, rowsToRead}
-use Rattle.rules.specs.Exactly.{In, All, Reflects, is-in, is-either}
+use Rattle.rules.specs.Exactly.{In, All, is-in, is-either}
 use Rattle.rules.specs.VacuumRefuses.{Picks, keep-picks}
 use Rattle.rules.specs.Members.{all-in, in-all, picks-in}
 

@@ -1,18 +1,17 @@
 -- Each theorem with a premise has a store that meets it. The stores are states of short runs, computed from memory in which every word is
 -- 0, and one that is lent damaged.
-use Prim.Native.Nat.{ℕ, _+_, _*_, _≤_, _<_}
+use Prim.Native.Nat.{ℕ, _+_, _<_}
 use mathlib.Core.Bool.{true}
-use mathlib.Core.List.{List, [], _∷_, _++_, reverseAux}
-use mathlib.Core.Option.{Option, none, some}
-use mathlib.Core.Path.{_≡_, refl, sym, ap, _∙_, subst}
-use mathlib.Core.Logic.{_≢_, _⊎_, inl, inr}
+use mathlib.Core.List.{List, [], _∷_, reverseAux}
+use mathlib.Core.Option.{none, some}
+use mathlib.Core.Path.{_≡_, refl, sym, _∙_, subst}
+use mathlib.Core.Logic.{_≢_, inl, inr}
 use native.Mathlib.Omega.{arith}
 use lib.ListN.{length, getD, set, take, replicate}
 use Rattle.rules.specs.declared.ReadAnswer.{ReadAnswer}
-use Rattle.rules.specs.declared.ReadAnswer.the-variants.{None, Empty, Key}
-use Rattle.rules.specs.declared.Answer.{Answer}
+use Rattle.rules.specs.declared.ReadAnswer.the-variants.{None, Key}
 use Rattle.rules.specs.declared.Answer.the-variants.{Done, Begun, Wrote, Vacuumed, Listed, Refused}
-use Rattle.rules.specs.Sizes.{Sizes, base, lastId, ID, WRITES}
+use Rattle.rules.specs.Sizes.{base, lastId, ID, WRITES}
 use Rattle.rules.specs.Lists.{has, keep, first, last, fold, least, greatest, from}
 use Rattle.rules.specs.Versions.{tx, at, versionOf, wordsOf, cellAt, versionAt, linkAt, withXmax, withNext, unlocked, putCell}
 use Rattle.rules.specs.Slots.{words, threes, slotOf, push, opened}
@@ -30,9 +29,9 @@ use Rattle.rules.specs.Commit.{markBase, commitTests, publish, commitOut
 use Rattle.rules.specs.Abort.{news, unlockBase, giveBack, abortOut}
 use Rattle.rules.specs.Vacuum.{reclaimable, relink, reports, swept, vacuumNow, vacuumOut}
 use Rattle.rules.specs.Lookup.{isKey, listRow, findRow, lookupEnd, rowsToRead, lookupOut, lookupAllOut}
-use Rattle.rules.specs.Run.{Call, create, begin, read, write, commit, abort, vacuum, lookup, lookupAll, replyNumber, step, run}
+use Rattle.rules.specs.Run.{Call, create, begin, write, commit, replyNumber, step, run}
 use Rattle.rules.specs.Exactly.{In, NoneOf, inAnswer, inRead, accepted-none, not-refused, none-append}
-use Rattle.rules.specs.CommitRefuses.{commitLines, commit-refuses-exactly}
+use Rattle.rules.specs.CommitRefuses.{commitLines}
 use Rattle.rules.specs.CommitRefusedWhen.{Validating, commit-refused-8-exactly-when}
 use Rattle.rules.specs.CommitAllOrNothing.{published, commit-refused-keeps-every-head-mark-and-lock, commit-accepted-when, commit-accepted-leaves-exactly, commit-refused-for-its-last-write, commit-refused-for-damage-in-its-last-entry}
 use Rattle.rules.specs.RefusedChangesNothing.{refused-call-changes-nothing}

@@ -1,11 +1,11 @@
 -- No second outcome fits. A call's specification is its table of refusals and what an accepted call leaves, said of any outcome; two
 -- outcomes that meet it for the same arguments and memory are equal: the answer, what stands in the buffer, every lent entry.
 use Prim.Native.Nat.{ℕ}
-use mathlib.Core.Bool.{true, false, not, cond}
+use mathlib.Core.Bool.{true, false}
 use mathlib.Core.List.{List, [], _∷_, _++_}
 use mathlib.Core.Option.{Option, none, some}
-use mathlib.Core.Path.{_≡_, refl, sym, ap, _∙_, subst}
-use mathlib.Core.Logic.{_≢_, _⊎_, inl, inr, ⊎-elim}
+use mathlib.Core.Path.{_≡_, refl, sym, _∙_, subst}
+use mathlib.Core.Logic.{_⊎_, inl, inr, ⊎-elim}
 use native.Mathlib.Omega.{arith}
 use lib.ListN.{length, take}
 use lib.Dec.{ltb, leb}
@@ -14,32 +14,32 @@ use Rattle.rules.specs.declared.ReadAnswer.the-variants.{None}
 use Rattle.rules.specs.declared.Answer.{Answer}
 use Rattle.rules.specs.declared.Answer.the-variants.{Done, Begun, Wrote, Vacuumed, Listed}
 use Rattle.rules.specs.Sizes.{Sizes}
-use Rattle.rules.specs.Lists.{keep, fold, from}
+use Rattle.rules.specs.Lists.{fold, from}
 use Rattle.rules.specs.Cases.{byBool}
 use Rattle.rules.specs.Versions.{tx, at, valueOf, versionAt}
 use Rattle.rules.specs.Slots.{Write, Rec, addRecs, emptied}
 use Rattle.rules.specs.Memory.{Mem, sizeR, sizeN, clock, free, headAt, wordsAt, slotAt, withCells, withSlot}
-use Rattle.rules.specs.Chain.{After, ends, goesOn, broken, Chain, chained}
+use Rattle.rules.specs.Chain.{After, ends, goesOn, broken, chained}
 use Rattle.rules.specs.Snapshot.{vacant, horizon}
-use Rattle.rules.specs.Outcome.{Outcome, out, guard, refuse}
+use Rattle.rules.specs.Outcome.{Outcome, out, guard}
 use Rattle.rules.specs.Create.{created, createOut}
 use Rattle.rules.specs.Begin.{begun, beginOut}
-use Rattle.rules.specs.Read.{own, answerAt, Sight, blocked, sees, readRow, readAt, readEnd, readOut}
+use Rattle.rules.specs.Read.{own, answerAt, Sight, blocked, sees, readAt, readEnd, readOut}
 use Rattle.rules.specs.Write.{prepared, replaced, writeOut}
 use Rattle.rules.specs.Commit.{publishAll, commitOut}
 use Rattle.rules.specs.Abort.{giveBack, abortOut}
-use Rattle.rules.specs.Vacuum.{reclaimable, relink, reports, swept, vacuumNow, vacuumOut}
-use Rattle.rules.specs.Lookup.{Found, stopped, got, isKey, ownRows, listRow, findRow, find, lookupEnd, rowsToRead, lookupOut, lookupAllOut}
-use Rattle.rules.specs.Exactly.{Line, Refuses, NoneOf, Told, inAnswer, inRead, Exactly, Reflects, eachOf, is-less, is-most, is-not, none-append, none-refuses, holds-true, fails-false}
+use Rattle.rules.specs.Vacuum.{relink, reports, swept, vacuumNow, vacuumOut}
+use Rattle.rules.specs.Lookup.{Found, got, isKey, ownRows, listRow, findRow, find, lookupEnd, rowsToRead, lookupOut, lookupAllOut}
+use Rattle.rules.specs.Exactly.{Line, Refuses, NoneOf, Told, inAnswer, inRead, Exactly, eachOf, is-less, is-most, is-not, none-append, none-refuses, holds-true, fails-false}
 use Rattle.rules.specs.Terms.{LastEntry, NoEntry, OwnIs, own-is, is-own}
 use Rattle.rules.specs.Along.{ChainIs, chain-is, is-chain}
 use Rattle.rules.specs.SharedLines.{storeLines, slotLines, rowLines, rowLine}
 use Rattle.rules.specs.CreateRefuses.{createLines, create-refuses-exactly, beginLines, begin-refuses-exactly}
-use Rattle.rules.specs.ReadRefuses.{sightLines, Reads, SightIs, sight-is, reads-is, sightLinesAt, readLines, read-refuses-exactly}
+use Rattle.rules.specs.ReadRefuses.{Reads, SightIs, sight-is, reads-is, sightLinesAt, readLines, read-refuses-exactly}
 use Rattle.rules.specs.WriteRefuses.{writeLines, written, write-refuses-exactly}
 use Rattle.rules.specs.CommitRefuses.{commitLines, commit-refuses-exactly}
 use Rattle.rules.specs.AbortRefuses.{abortLines, aborted, abort-refuses-exactly}
-use Rattle.rules.specs.VacuumRefuses.{Reclaimable, is-reclaimable, Picks, keep-picks, picks-keep, WholeChain, DeadOf, Overfull, WalksPast, Breaks, walkLines, vacuumLines, rowChain, vacuumed, vacuum-refuses-exactly}
+use Rattle.rules.specs.VacuumRefuses.{Reclaimable, is-reclaimable, Picks, keep-picks, picks-keep, WholeChain, DeadOf, walkLines, vacuumLines, rowChain, vacuumed, vacuum-refuses-exactly}
 use Rattle.rules.specs.LookupRefuses.{HoldsKey, is-key, recsAfter, rowsAfter, fullLine, sightLinesOf, findLines, candidateLines, ownRowLines, lookupLines, lookup-refuses-exactly, lookupAllLines, lookup-all-refuses-exactly}
 
 -- an outcome that meets a specification: where a line of the table applies it is that refusal and nothing changed; where none does it

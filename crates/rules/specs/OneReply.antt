@@ -15,7 +15,7 @@ use Rattle.rules.specs.Commit.{commitOut}
 use Rattle.rules.specs.Abort.{abortOut}
 use Rattle.rules.specs.Vacuum.{vacuumOut}
 use Rattle.rules.specs.Lookup.{lookupOut, lookupAllOut}
-use Rattle.rules.specs.Run.{Call, create, begin, read, write, commit, abort, vacuum, lookup, lookupAll, Reply, looked, gave, swept, Ran, step}
+use Rattle.rules.specs.Run.{Call, create, begin, read, write, commit, abort, vacuum, lookup, lookupAll, looked, gave, swept, Ran, step}
 use Rattle.rules.specs.OneOutcome.{CreateSpec, create-meets, create-no-second-outcome, BeginSpec, begin-meets, begin-no-second-outcome, ReadSpec, read-meets, read-no-second-outcome, WriteSpec, write-meets, write-no-second-outcome, CommitSpec, commit-meets, commit-no-second-outcome, AbortSpec, abort-meets, abort-no-second-outcome, VacuumSpec, vacuum-meets, vacuum-no-second-outcome, LookupSpec, lookup-meets, lookup-no-second-outcome, LookupAllSpec, lookup-all-meets, lookup-all-no-second-outcome}
 
 module _ {z : Sizes} where

@@ -1,27 +1,24 @@
 -- What publication leaves, entry by entry: "for each write: base xmax = id and unlocked, new next = base, head = new". Heads on any
 -- memory; cells where the cells of the write set are apart, as they are in every store that our calls have made.
-use Prim.Native.Nat.{ℕ, zero, suc, _≤_, _<_}
-use mathlib.Core.Bool.{true, false, cond}
+use Prim.Native.Nat.{ℕ, _≤_, _<_}
 use mathlib.Core.List.{List, [], _∷_, _++_}
 use mathlib.Core.Path.{_≡_, refl, sym, ap, _∙_, subst}
-use mathlib.Core.Logic.{_≢_, _⊎_, inl, inr}
+use mathlib.Core.Logic.{_≢_, inl, inr}
 use native.Mathlib.Omega.{arith}
 use lib.ListN.{length, getD, set, length-set}
 use lib.Seq.{getD-set-same, getD-set-other}
-use lib.Dec.{eqb}
 use borrow.Author.Tests.{eq-eqb, ne-eqb}
-use Rattle.rules.specs.declared.Version.{Version}
 use Rattle.rules.specs.Sizes.{Sizes}
 use Rattle.rules.specs.Lists.{fold}
 use Rattle.rules.specs.Cases.{byEq}
-use Rattle.rules.specs.Versions.{withXmax, withNext, unlocked, versionOf, cellAt, versionAt, linkAt, putCell, putVersion}
-use Rattle.rules.specs.Slots.{Write, Slot, emptied}
-use Rattle.rules.specs.Memory.{Mem, headAt, slotAt, withSlot}
-use Rattle.rules.specs.Commit.{markBase, publish, publishAll, commitOut}
-use Rattle.rules.specs.Exactly.{In, All, all-map, NoneOf}
+use Rattle.rules.specs.Versions.{withXmax, withNext, unlocked, versionOf, cellAt, versionAt, linkAt, putVersion}
+use Rattle.rules.specs.Slots.{Write}
+use Rattle.rules.specs.Memory.{Mem, headAt}
+use Rattle.rules.specs.Commit.{markBase, publish, publishAll}
+use Rattle.rules.specs.Exactly.{In, All, all-map}
 use Rattle.rules.specs.Terms.{LastEntry, NoEntry}
 use Rattle.rules.specs.Along.{positive}
-use Rattle.rules.specs.CellLaws.{HasCell, length-put, put-on, put-off, put-else}
+use Rattle.rules.specs.CellLaws.{HasCell, length-put, put-on, put-else}
 use Rattle.rules.specs.Members.{all-in}
 
 fold-append : {A S : Type 0} (f : A → S → S) (a b : List A) (s : S) → fold f (a ++ b) s ≡ fold f b (fold f a s)

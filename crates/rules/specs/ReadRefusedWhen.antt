@@ -1,9 +1,9 @@
 -- A read's refusals 10 and 13, each alone: when it is given, with "and no earlier refusal applies" as `NoneOf` of the earlier lines.
 -- Refusal 10 is also said of the row's chain taken whole.
 use Prim.Native.Nat.{ℕ, zero, suc, _≤_, _<_}
-use mathlib.Core.List.{List, [], _∷_, _++_}
+use mathlib.Core.List.{List, [], _∷_}
 use mathlib.Core.Path.{_≡_, refl, sym, ap, _∙_, subst}
-use mathlib.Core.Logic.{_≢_, _↔_, Iff·trans, Iff·and, _⊎_, inl, inr}
+use mathlib.Core.Logic.{_≢_, _↔_, Iff·trans, Iff·and, inl, inr}
 use native.Mathlib.Omega.{arith}
 use lib.ListN.{length, take}
 use Rattle.rules.specs.declared.Version.{Version}
@@ -17,9 +17,9 @@ use Rattle.rules.specs.Chain.{Look, found, tooLong, harmed}
 use Rattle.rules.specs.Read.{readOut}
 use Rattle.rules.specs.Exactly.{All, Refuses, NoneOf, inRead, refused-iff, refuses-past}
 use Rattle.rules.specs.Terms.{CellOf, Sees, NoEntry, entry-or-none, Recorded}
-use Rattle.rules.specs.Along.{Along, Way, Unseen, FirstSeen, TooLong, Harmed, is-look, look-apart}
+use Rattle.rules.specs.Along.{Along, Way, Unseen, FirstSeen, TooLong, look-apart}
 use Rattle.rules.specs.SharedLines.{rowLines, rows-lack}
-use Rattle.rules.specs.ReadRefuses.{lookNumber, sightLinesAt, readLines, read-refuses-exactly}
+use Rattle.rules.specs.ReadRefuses.{lookNumber, sightLinesAt, read-refuses-exactly}
 
 -- ---- a chain longer than the limit
 

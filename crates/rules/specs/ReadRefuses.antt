@@ -1,10 +1,9 @@
 -- A read refuses exactly when the paper says. "a read tests 10 before following each pointer, then 13".
-use Prim.Native.Nat.{ℕ, _≤_, _<_}
-use mathlib.Core.Bool.{Bool, true, false, cond}
+use Prim.Native.Nat.{ℕ, _≤_}
 use mathlib.Core.List.{List, [], _∷_, _++_}
 use mathlib.Core.Option.{Option, none, some}
 use mathlib.Core.Path.{_≡_, refl, sym, ap, _∙_, subst}
-use mathlib.Core.Logic.{_≢_, _↔_, _⊎_, inl, inr}
+use mathlib.Core.Logic.{_≢_, inl, inr}
 use native.Mathlib.Omega.{arith}
 use lib.ListN.{length}
 use lib.Dec.{eqb, leb}
@@ -19,9 +18,9 @@ use Rattle.rules.specs.Versions.{versionAt}
 use Rattle.rules.specs.Slots.{Write, Rec, rec, Slot}
 use Rattle.rules.specs.Memory.{Mem, sizeN, headAt, slotAt}
 use Rattle.rules.specs.Chain.{Look, found, nothing, tooLong, harmed, look}
-use Rattle.rules.specs.Outcome.{Outcome, out, guard, slotTests, rowTest, isCell}
+use Rattle.rules.specs.Outcome.{slotTests, rowTest, isCell}
 use Rattle.rules.specs.Read.{own, answerAt, Sight, blocked, sees, recorded, sightOf, ownSight, readRow, readAt, readEnd, readOut}
-use Rattle.rules.specs.Exactly.{Line, line, Refuses, NoneOf, Exactly, inRead, is-most, holds-true, fails-false, exactly-guarded, exactly-blocked, exactly-accepted, refuses-past}
+use Rattle.rules.specs.Exactly.{Line, line, Refuses, NoneOf, Exactly, inRead, is-most, holds-true, fails-false, exactly-guarded, exactly-blocked, exactly-accepted}
 use Rattle.rules.specs.Terms.{CellOf, is-cell, LastEntry, NoEntry, OwnIs, own-is, is-own, Recorded, is-recorded}
 use Rattle.rules.specs.Along.{FirstSeen, NoneSeen, TooLong, Harmed, LookIs, look-is, is-look}
 use Rattle.rules.specs.SharedLines.{rowLines, row-says}

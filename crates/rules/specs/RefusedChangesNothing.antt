@@ -2,7 +2,6 @@
 -- each call is then a line, since a call is its tests and what they guard.
 use Prim.Native.Nat.{ℕ, _<_}
 use mathlib.Core.List.{List, [], _∷_}
-use mathlib.Core.Bool.{cond}
 use mathlib.Core.Option.{Option, none, some}
 use mathlib.Core.Path.{_≡_, refl}
 use native.Mathlib.Omega.{arith}
@@ -27,7 +26,7 @@ use Rattle.rules.specs.Commit.{commitOut}
 use Rattle.rules.specs.Abort.{abortOut}
 use Rattle.rules.specs.Vacuum.{swept, vacuumNow, vacuumOut}
 use Rattle.rules.specs.Lookup.{Found, stopped, got, lookupEnd, lookupOut, lookupAllOut}
-use Rattle.rules.specs.Run.{Call, create, begin, read, write, commit, abort, vacuum, lookup, lookupAll, Reply, looked, gave, replyNumber, Ran, step}
+use Rattle.rules.specs.Run.{Call, create, begin, read, write, commit, abort, vacuum, lookup, lookupAll, Reply, looked, gave, replyNumber, step}
 use Rattle.rules.specs.Run as R
 
 -- an outcome that is accepted, or leaves the memory and the buffer alone

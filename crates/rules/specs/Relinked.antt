@@ -1,18 +1,16 @@
 -- The cells of a list linked one to the next: following next passes exactly the list, and nothing but next is changed.
-use Prim.Native.Nat.{ℕ, zero, suc, _≤_, _<_}
-use mathlib.Core.List.{List, [], _∷_, _++_}
+use Prim.Native.Nat.{ℕ, _≤_}
+use mathlib.Core.List.{List, [], _∷_}
 use mathlib.Core.Path.{_≡_, refl, sym, ap, _∙_, subst}
-use mathlib.Core.Logic.{_≢_, _⊎_, inl, inr}
-use native.Mathlib.Omega.{arith}
+use mathlib.Core.Logic.{_≢_, inl, inr}
 use lib.ListN.{length, getD}
 use Rattle.rules.specs.declared.Version.{Version}
-use Rattle.rules.specs.Cases.{byEq}
-use Rattle.rules.specs.Versions.{withNext, versionOf, cellAt, versionAt, linkAt, putCell, putVersion}
+use Rattle.rules.specs.Versions.{withNext, versionOf, cellAt, versionAt, linkAt, putVersion}
 use Rattle.rules.specs.Vacuum.{relink}
 use Rattle.rules.specs.Exactly.{In, All, all-map}
 use Rattle.rules.specs.Along.{Along}
-use Rattle.rules.specs.CellLaws.{HasCell, length-put, put-on, put-off, put-else, put-link}
-use Rattle.rules.specs.Members.{Once, in-or-not}
+use Rattle.rules.specs.CellLaws.{HasCell, length-put, put-on, put-else, put-link}
+use Rattle.rules.specs.Members.{Once}
 
 abbrev linkedTo : List (List ℕ) → ℕ → ℕ → List (List ℕ)
 linkedTo cs c d = putVersion cs c (withNext (versionAt cs c) d)

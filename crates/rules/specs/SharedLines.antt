@@ -8,7 +8,7 @@ use lib.ListN.{getD}
 use Rattle.rules.specs.Sizes.{Sizes, ID, ACTIVE, WRITES, READS}
 use Rattle.rules.specs.Numbers.{badSlot, notOwner, badRow, damaged}
 use Rattle.rules.specs.Memory.{Mem, sizeR, wordsAt}
-use Rattle.rules.specs.Outcome.{Test, storeTests, slotTests, rowTest}
+use Rattle.rules.specs.Outcome.{storeTests, slotTests, rowTest}
 use Rattle.rules.specs.Exactly.{Line, line, Says, Lacks, lacks-append, is-equal, is-less, is-most, is-not, is-either, says-append}
 use Rattle.rules.specs.Terms.{StoreDamaged, is-store-damaged}
 

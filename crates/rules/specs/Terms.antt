@@ -1,18 +1,18 @@
 -- The conditions of the paper as propositions, and that each test of the definitions decides its condition. Who reads the tables of
 -- refusals reads these and no test.
-use Prim.Native.Nat.{ℕ, zero, suc, _+_, _≤_, _<_}
-use mathlib.Core.Bool.{Bool, true, false, not, _&&_, _||_, cond}
+use Prim.Native.Nat.{ℕ, zero, suc, _≤_, _<_}
+use mathlib.Core.Bool.{false, not, _||_, cond}
 use mathlib.Core.List.{List, [], _∷_, _++_}
 use mathlib.Core.Option.{Option, none, some}
 use mathlib.Core.Path.{_≡_, refl, sym, ap, _∙_}
-use mathlib.Core.Logic.{_≢_, _↔_, _⊎_, inl, inr, ⊎-elim}
+use mathlib.Core.Logic.{_≢_, _⊎_, inl}
 use native.Mathlib.Omega.{arith}
 use lib.ListN.{length, take, getD}
-use lib.Dec.{eqb, ltb, leb}
-use borrow.Author.Tests.{eq-eqb, ne-eqb, le-ltb, lt-ltb}
+use lib.Dec.{eqb, leb}
+use borrow.Author.Tests.{eq-eqb, ne-eqb}
 use Rattle.rules.specs.declared.Version.{Version}
 use Rattle.rules.specs.Sizes.{Sizes, metaWords, ID}
-use Rattle.rules.specs.Lists.{nonzero, has, last, orElse}
+use Rattle.rules.specs.Lists.{last, orElse}
 use Rattle.rules.specs.Cases.{byBool, byEq, no-both}
 use Rattle.rules.specs.Versions.{lockedByOther}
 use Rattle.rules.specs.Slots.{Write, Rec, Slot}

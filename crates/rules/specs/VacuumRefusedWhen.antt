@@ -1,22 +1,22 @@
 -- A vacuum's refusals 14 and 15, each alone.
-use Prim.Native.Nat.{ℕ, _≤_, _<_}
+use Prim.Native.Nat.{ℕ}
 use mathlib.Core.List.{List, [], _∷_, _++_}
 use mathlib.Core.Path.{_≡_, refl, sym, ap, _∙_}
-use mathlib.Core.Logic.{_≢_, _↔_, Iff·trans, Iff·and, _⊎_, inl, inr}
+use mathlib.Core.Logic.{_↔_, Iff·trans, Iff·and, _⊎_, inl, inr}
 use native.Mathlib.Omega.{arith}
 use Rattle.rules.specs.declared.Answer.{Answer}
 use Rattle.rules.specs.Sizes.{Sizes}
 use Rattle.rules.specs.Numbers.{resultFull, damaged}
 use Rattle.rules.specs.Versions.{versionAt}
 use Rattle.rules.specs.Memory.{Mem, sizeN, headAt}
-use Rattle.rules.specs.Chain.{After, ends, goesOn, broken, Chain, chained}
+use Rattle.rules.specs.Chain.{After, ends, goesOn, broken, Chain}
 use Rattle.rules.specs.Snapshot.{horizon}
 use Rattle.rules.specs.Vacuum.{vacuumOut}
-use Rattle.rules.specs.Exactly.{Line, Refuses, NoneOf, inAnswer, refused-iff, refuses-append, refuses-past}
+use Rattle.rules.specs.Exactly.{Line, Refuses, NoneOf, inAnswer, refused-iff, refuses-past}
 use Rattle.rules.specs.Terms.{StoreDamaged}
 use Rattle.rules.specs.Along.{ChainIs, is-chain}
 use Rattle.rules.specs.SharedLines.{storeLines, rowLine}
-use Rattle.rules.specs.VacuumRefuses.{WalksPast, Breaks, Overfull, walkLines, vacuumLines, vacuumed, vacuum-refuses-exactly}
+use Rattle.rules.specs.VacuumRefuses.{WalksPast, Breaks, Overfull, walkLines, vacuumLines, vacuum-refuses-exactly}
 
 module _ {z : Sizes} (m : Mem z) (row request room : ℕ) where
   abbrev headLines : List Line

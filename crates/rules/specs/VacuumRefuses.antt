@@ -1,9 +1,9 @@
 -- A vacuum refuses exactly when the paper says. "vacuum walks, then 14".
-use Prim.Native.Nat.{ℕ, zero, suc, _≤_, _<_}
-use mathlib.Core.Bool.{Bool, true, false, not, cond}
+use Prim.Native.Nat.{ℕ, _≤_, _<_}
+use mathlib.Core.Bool.{Bool}
 use mathlib.Core.List.{List, [], _∷_, _++_}
 use mathlib.Core.Path.{_≡_, refl, sym, ap, _∙_, subst}
-use mathlib.Core.Logic.{_≢_, _⊎_, inl, inr, ⊎-elim}
+use mathlib.Core.Logic.{_≢_, _⊎_, inl, inr}
 use native.Mathlib.Omega.{arith}
 use lib.ListN.{length}
 use lib.Dec.{ltb}
@@ -17,9 +17,9 @@ use Rattle.rules.specs.Versions.{versionAt}
 use Rattle.rules.specs.Memory.{Mem, sizeN, headAt}
 use Rattle.rules.specs.Chain.{After, ends, goesOn, broken, Chain, chained, chain}
 use Rattle.rules.specs.Snapshot.{horizon}
-use Rattle.rules.specs.Outcome.{Outcome, out, test, guard, refuse, storeTests, rowTest}
+use Rattle.rules.specs.Outcome.{Outcome, guard, storeTests, rowTest}
 use Rattle.rules.specs.Vacuum.{reclaimable, swept, vacuumNow, vacuumOut}
-use Rattle.rules.specs.Exactly.{Line, line, NoneOf, Refuses, Says, Reflects, Exactly, inAnswer, isRefusal, not-refused, is-less, is-most, is-not, is-nonzero, is-both, is-also, holds-true, fails-false, says-append, exactly-guarded, exactly-blocked, exactly-accepted, exactly-answered}
+use Rattle.rules.specs.Exactly.{Line, line, Reflects, Exactly, inAnswer, not-refused, is-less, is-most, is-not, is-nonzero, is-both, is-also, holds-true, fails-false, says-append, exactly-guarded, exactly-blocked, exactly-accepted}
 use Rattle.rules.specs.Along.{Way, ChainIs, chain-is, is-chain}
 use Rattle.rules.specs.SharedLines.{storeLines, store-says, rowLine}
 

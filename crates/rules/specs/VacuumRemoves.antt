@@ -1,32 +1,30 @@
 -- An accepted vacuum removes exactly the reclaimable: the versions after the head with xmax nonzero, below the horizon, unlocked. It
 -- reports each once, newest first, cell and value, and answers their count and the live head's value; the chain left is the old one
 -- without them; what is removed is cleared; and nothing else changes but next and the free list.
-use Prim.Native.Nat.{ℕ, zero, suc, _≤_, _<_}
-use mathlib.Core.List.{List, [], _∷_, _++_, map}
+use Prim.Native.Nat.{ℕ, _≤_}
+use mathlib.Core.List.{List, [], _∷_, map}
 use mathlib.Core.Path.{_≡_, refl, sym, ap, _∙_, subst}
-use mathlib.Core.Logic.{_≢_, _↔_, _⊎_, inl, inr}
+use mathlib.Core.Logic.{_≢_, _↔_, inl, inr}
 use native.Mathlib.Omega.{arith}
 use lib.ListN.{length, getD}
 use Rattle.rules.specs.declared.Version.{Version}
 use Rattle.rules.specs.declared.ReadAnswer.the-variants.{None}
 use Rattle.rules.specs.declared.Answer.{Answer}
 use Rattle.rules.specs.declared.Answer.the-variants.{Vacuumed}
-use Rattle.rules.specs.Sizes.{Sizes, ROWS, CELLS, CLOCK, FREE}
-use Rattle.rules.specs.Lists.{keep, fold}
+use Rattle.rules.specs.Sizes.{Sizes, CELLS, FREE}
 use Rattle.rules.specs.Versions.{withNext, valueOf, emptyVersion, versionOf, cellAt, versionAt, linkAt}
-use Rattle.rules.specs.Memory.{Mem, sizeR, sizeN, clock, headAt, withCells}
-use Rattle.rules.specs.Chain.{ends, Chain, chained, chain}
+use Rattle.rules.specs.Memory.{Mem, sizeR, sizeN, headAt, withCells}
+use Rattle.rules.specs.Chain.{ends, chained}
 use Rattle.rules.specs.Snapshot.{horizon}
 use Rattle.rules.specs.Outcome.{Outcome, out}
-use Rattle.rules.specs.Abort.{giveBack}
-use Rattle.rules.specs.Vacuum.{reclaimable, relink, reportOf, reports, vacuumOut}
+use Rattle.rules.specs.Vacuum.{relink, reportOf, reports, vacuumOut}
 use Rattle.rules.specs.Exactly.{In, All, all-map, NoneOf, is-not}
 use Rattle.rules.specs.Terms.{Fitting, store-fits, CellOf}
 use Rattle.rules.specs.Along.{Along, Way, is-chain}
 use Rattle.rules.specs.CellLaws.{HasCell}
 use Rattle.rules.specs.Members.{Once, all-in, in-all, picks-in, picks-length, picks-once}
 use Rattle.rules.specs.ChainOnce.{chain-passes-each-cell-once, along-agree}
-use Rattle.rules.specs.GivenBack.{giveAll, give-all-rows, give-all-slots, give-all-meta, give-all-length, give-all-else, give-all-cleared}
+use Rattle.rules.specs.GivenBack.{giveAll, give-all-rows, give-all-slots, give-all-meta, give-all-else, give-all-cleared}
 use Rattle.rules.specs.Relinked.{relink-length, relink-else, relink-along, relink-keeps}
 use Rattle.rules.specs.VacuumRefuses.{Reclaimable, is-reclaimable, Picks, keep-picks, WholeChain, DeadOf, vacuumLines, rowChain}
 use Rattle.rules.specs.OneOutcome.{KeptOf, sweptTo, vacuum-meets, vacuum-walks}

@@ -1,22 +1,21 @@
 -- A write's refusals 7, 8, 12 and 11, each alone. "write tests 7 and 8 only where the row has no own entry, then 12 and 11 only where
 -- an entry is added".
 use Prim.Native.Nat.{ℕ, _≤_, _<_}
-use mathlib.Core.List.{List, [], _∷_, _++_}
 use mathlib.Core.Option.{Option}
 use mathlib.Core.Path.{_≡_, refl}
-use mathlib.Core.Logic.{_≢_, _↔_, Iff·trans, Iff·and, _⊎_, inl, inr}
+use mathlib.Core.Logic.{_≢_, _↔_, Iff·trans, Iff·and, inl, inr}
 use native.Mathlib.Omega.{arith}
 use Rattle.rules.specs.declared.Answer.{Answer}
 use Rattle.rules.specs.Sizes.{Sizes, WRITES}
-use Rattle.rules.specs.Numbers.{rowLocked, writeConflict, noRoom, writeSetFull, damaged}
-use Rattle.rules.specs.Cases.{byBool, byLe, byEq}
+use Rattle.rules.specs.Numbers.{rowLocked, writeConflict, noRoom, writeSetFull}
+use Rattle.rules.specs.Cases.{byBool, byLe}
 use Rattle.rules.specs.Memory.{Mem, sizeN, free, headAt, slotAt}
 use Rattle.rules.specs.Visible.{visible}
 use Rattle.rules.specs.Write.{writeOut}
-use Rattle.rules.specs.Exactly.{Refuses, NoneOf, under, inAnswer, refused-iff, refuses-past, refuses-under}
+use Rattle.rules.specs.Exactly.{Refuses, NoneOf, inAnswer, refused-iff, refuses-past, refuses-under}
 use Rattle.rules.specs.Terms.{Sees, is-seen, LockedByOther, NoEntry, entry-or-none}
 use Rattle.rules.specs.SharedLines.{rowLines, rows-lack, countAt}
-use Rattle.rules.specs.WriteRefuses.{headVersion, addLines, nowLines, writeLines, written, write-refuses-exactly}
+use Rattle.rules.specs.WriteRefuses.{headVersion, addLines, nowLines, write-refuses-exactly}
 
 module _ {z : Sizes} (m : Mem z) (s id row : ℕ) where
   -- no earlier refusal applies, and an entry is to be added

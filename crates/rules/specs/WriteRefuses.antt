@@ -15,12 +15,12 @@ use Rattle.rules.specs.Sizes.{Sizes, WRITES}
 use Rattle.rules.specs.Numbers.{rowLocked, writeConflict, noRoom, writeSetFull, damaged}
 use Rattle.rules.specs.Cases.{byBool}
 use Rattle.rules.specs.Versions.{at, versionAt}
-use Rattle.rules.specs.Slots.{Write, Slot}
+use Rattle.rules.specs.Slots.{Write}
 use Rattle.rules.specs.Memory.{Mem, sizeN, free, headAt, wordsAt, slotAt}
-use Rattle.rules.specs.Outcome.{Outcome, out, Test, test, guard, refuse, slotTests, rowTest, isCell}
+use Rattle.rules.specs.Outcome.{Outcome, out, Test, test, guard, slotTests, rowTest, isCell}
 use Rattle.rules.specs.Read.{own}
 use Rattle.rules.specs.Write.{prepared, replaced, headTests, writeNow, writeOut}
-use Rattle.rules.specs.Exactly.{Line, line, under, Says, Exactly, inAnswer, is-equal, is-less, is-most, is-not, is-nonzero, is-both, says-append, exactly-tested, exactly-guarded, exactly-accepted, exactly-refused, exactly-skip, exactly-under, not-under, not-refused}
+use Rattle.rules.specs.Exactly.{Line, line, under, Says, Exactly, inAnswer, is-equal, is-less, is-most, is-not, is-nonzero, is-both, exactly-tested, exactly-guarded, exactly-accepted, exactly-refused, exactly-skip, exactly-under, not-under, not-refused}
 use Rattle.rules.specs.Terms.{CellOf, is-cell, Sees, is-seen, LockedByOther, is-locked-by-other, LastEntry, NoEntry, OwnIs, own-is, is-own}
 use Rattle.rules.specs.SharedLines.{rowLines, row-says, countAt}
 
