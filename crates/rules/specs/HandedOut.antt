@@ -7,8 +7,8 @@ use mathlib.Core.Option.{Option}
 use mathlib.Core.Path.{_≡_, refl, sym, ap, _∙_, subst}
 use mathlib.Core.Logic.{_≢_, inl, inr}
 use native.Mathlib.Omega.{arith}
-use lib.ListN.{length, getD, drop, length-set, List·getD-append}
-use lib.Seq.{sets, sets-eq, getD-set-same}
+use lib.ListN.{length, getD, length-set}
+use lib.Seq.{getD-set-same}
 use lib.Dec.{eqb}
 use borrow.Author.Tests.{eq-eqb, ne-eqb}
 use Rattle.rules.specs.declared.Answer.the-variants.{Wrote}
@@ -24,6 +24,7 @@ use Rattle.rules.specs.Abort.{giveBack}
 use Rattle.rules.specs.Exactly.{In, All, all-map, NoneOf, none-append, none-under}
 use Rattle.rules.specs.Terms.{Fitting, store-fits, NoEntry}
 use Rattle.rules.specs.Along.{positive}
+use Rattle.rules.specs.SetsAtFront.{front-is}
 use Rattle.rules.specs.CellLaws.{HasCell, length-put, put-link, put-else}
 use Rattle.rules.specs.Members.{Once}
 use Rattle.rules.specs.GivenBack.{giveAll, given-back-is-next, given-back-links-to-the-next-before, give-back-else}
@@ -47,7 +48,7 @@ free-agree cs ds (c ∷ l) p h f = (f .0, (f .1 .0, free-agree cs ds l (linkAt d
 
 -- ---- after a creation
 
-fresh-at : (k c i : ℕ) → i < k → getD (freshCells k c) i [] ≡ wordsOf emptyVersion (cond (eqb (k - suc i) 0) 0 (c + i + 1))
+pub fresh-at : (k c i : ℕ) → i < k → getD (freshCells k c) i [] ≡ wordsOf emptyVersion (cond (eqb (k - suc i) 0) 0 (c + i + 1))
 unfolding freshCells
 fresh-at zero c i h = absurd (omega arith)
 fresh-at (suc k) c zero h =
@@ -59,7 +60,7 @@ fresh-at (suc k) c (suc i) h =
     let b : c + suc i + 1 ≡ c + 1 + i + 1 = omega arith in
     rw (a, b) (fresh-at k (c + 1) i (omega arith))
 
-fresh-length : (k c : ℕ) → length (freshCells k c) ≡ k
+pub fresh-length : (k c : ℕ) → length (freshCells k c) ≡ k
 unfolding freshCells
 fresh-length zero c = refl
 fresh-length (suc k) c = ap suc (fresh-length k (c + 1))
@@ -67,9 +68,7 @@ fresh-length (suc k) c = ap suc (fresh-length k (c + 1))
 module _ {z : Sizes} (m : Mem z) (n r : ℕ) (fit : Fitting m r n) where
   created-cell : (i : ℕ) → i < n → linkAt (created m n r .cells) (suc i) ≡ cond (eqb (n - suc i) 0) 0 (1 + i + 1)
   unfolding created cellAt wordsOf
-  created-cell i h =
-      let e = sets-eq (freshCells n 1) (m .cells) 0 (omega (arith, fresh-length n 1, fit .cells)) in
-      rw (e, List·getD-append (freshCells n 1) (drop (0 + length (freshCells n 1)) (m .cells)) [] i (rw (fresh-length n 1) h), fresh-at n 1 i h)
+  created-cell i h = ap (λ (w : List ℕ). getD w 7 0) (front-is (m .cells) (freshCells n 1) [] (rw (fresh-length n 1) (fit .cells)) i (rw (fresh-length n 1) h) ∙ fresh-at n 1 i h)
 
   -- the links go 1, 2, 3 and so on, the last to 0
   links-on : (i : ℕ) → suc i < n → linkAt (created m n r .cells) (suc i) ≡ suc (suc i)
@@ -90,14 +89,7 @@ module _ {z : Sizes} (m : Mem z) (n r : ℕ) (fit : Fitting m r n) where
 
   created-free : free (created m n r) ≡ 1
   unfolding created
-  created-free = getD-sets-four (m .meta) r n 1 1 (fit .metas)
-    where
-      getD-sets-four : (l : List ℕ) (a b c d : ℕ) → 4 ≤ length l → getD (sets l 0 (a ∷ b ∷ c ∷ d ∷ [])) FREE 0 ≡ d
-      getD-sets-four [] a b c d h = absurd (omega arith)
-      getD-sets-four (w ∷ []) a b c d h = absurd (omega arith)
-      getD-sets-four (w ∷ x ∷ []) a b c d h = absurd (omega arith)
-      getD-sets-four (w ∷ x ∷ y ∷ []) a b c d h = absurd (omega arith)
-      getD-sets-four (w ∷ x ∷ y ∷ v ∷ l) a b c d h = refl
+  created-free = front-is (m .meta) (r ∷ n ∷ 1 ∷ 1 ∷ []) 0 (fit .metas) FREE (omega arith)
 
   -- "Cells are handed out 1, 2, 3.."
   pub cells-are-handed-out-in-order : FreeList (created m n r) (from 1 n)
@@ -162,10 +154,10 @@ module _ {z : Sizes} (m : Mem z) (s id row : ℕ) (v : Option ℕ) (accepted : N
   fitting : Fitting m (sizeR m) (sizeN m)
   fitting = store-fits m (accepted .0)
 
-  adding : NoneOf (addLines m s id row)
+  pub adding : NoneOf (addLines m s id row)
   adding = none-under (NoEntry (slotAt m s .writes) row) (addLines m s id row) new (none-append (rowLines m s id row) (nowLines m s id row) .0 accepted .1 .1)
 
-  base-inside : headAt m row ≤ length (m .cells)
+  pub base-inside : headAt m row ≤ length (m .cells)
   base-inside = byLe (headAt m row) (sizeN m) (λ b. omega (arith, fitting .cells)) (λ b. absurd (adding .0 b))
 
   -- the free list loses its first cell and nothing else

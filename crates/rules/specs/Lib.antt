@@ -59,3 +59,7 @@ pub mod BeginTakes
 pub mod NotEmpty
 pub mod EveryRefusal
 pub mod DamagedWhen
+pub mod SetsAtFront
+pub mod CreateFresh
+pub mod WritePrepares
+pub mod ReadAnswers
