@@ -56,10 +56,10 @@ pub mod Published
 pub mod CommitPublishes
 pub mod LookupLists
 pub mod BeginTakes
-pub mod NotEmpty
 pub mod EveryRefusal
 pub mod DamagedWhen
 pub mod SetsAtFront
 pub mod CreateFresh
 pub mod WritePrepares
 pub mod ReadAnswers
+pub mod NotEmpty

@@ -13,7 +13,7 @@ use Rattle.rules.specs.declared.ReadAnswer.the-variants.{None, Key}
 use Rattle.rules.specs.declared.Answer.the-variants.{Done, Begun, Wrote, Vacuumed, Listed, Refused}
 use Rattle.rules.specs.Sizes.{base, lastId, ID, WRITES}
 use Rattle.rules.specs.Lists.{has, keep, first, last, fold, least, greatest, from}
-use Rattle.rules.specs.Versions.{tx, at, versionOf, wordsOf, cellAt, versionAt, linkAt, withXmax, withNext, unlocked, putCell}
+use Rattle.rules.specs.Versions.{tx, at, versionOf, wordsOf, cellAt, versionAt, linkAt, withXmax, withNext, lockedFor, unlocked, putCell}
 use Rattle.rules.specs.Slots.{words, threes, slotOf, push, opened}
 use Rattle.rules.specs.Slots as S
 use Rattle.rules.specs.Memory.{Mem, mem, sizeR, sizeN, free, headAt, wordsAt, slotAt, withSlot}
@@ -43,6 +43,7 @@ use Rattle.rules.specs.VacuumRefuses.{vacuum-refuses-exactly}
 use Rattle.rules.specs.VacuumRemoves.{Removed, vacuum-removes-exactly-the-reclaimable, vacuum-of-an-empty-row}
 use Rattle.rules.specs.AbortUndoes.{bases, abort-unlocks-each-base-it-owns, abort-gives-cells-back-in-write-order}
 use Rattle.rules.specs.HandedOut.{FreeList, write-leaves-the-rest-of-the-free-list, cells-are-handed-out-in-order, a-cell-given-back-is-the-next-handed-out}
+use Rattle.rules.specs.WritePrepares.{write-locks-the-base}
 use Rattle.rules.specs.LongerWalk.{lent, Same, Turned, longer-walk-changes-no-answer, longer-walk-turns-10-into}
 use Rattle.rules.specs.CommitPublishes.{commit-moves-each-head, commit-marks-each-base, commit-links-each-new}
 use Rattle.rules.specs.Published.{Apart}
@@ -88,6 +89,10 @@ behind = after (create 4 2 ∷ begin ∷ write 0 1 0 (some 70) ∷ commit 0 1 �
 abbrev pub idle : Mem base
 idle = after (create 4 2 ∷ begin ∷ [])
 
+-- a row committed, and an open transaction that has done nothing yet
+abbrev pub ready : Mem base
+ready = after (create 4 2 ∷ begin ∷ write 0 1 0 (some 70) ∷ commit 0 1 ∷ begin ∷ [])
+
 -- ---- what comes out by computation
 
 pub record Computed : Type 0 where
@@ -126,6 +131,11 @@ pub record Computed : Type 0 where
   pub commitsOver : commitOut locking 0 2 .answer ≡ Done
   pub looksUp : lookupAllOut locking 0 2 75 1 .answer ≡ Listed 1
   pub looksUpSome : lookupOut locking 0 2 75 (1 ∷ 0 ∷ 1 ∷ []) 1 .answer ≡ Listed 1
+  -- a write over a committed row
+  pub overwrites : writeOut ready 0 2 0 (some 75) .answer ≡ Wrote (at 2)
+  pub readyWrites : slotAt ready 0 .writes ≡ []
+  pub readyHead : headAt ready 0 ≡ 1
+  pub readyFree : free ready ≡ 2
   -- a write that takes a cell
   pub begins : beginOut idle .answer ≡ Begun 1 (tx 2)
   pub idleFree : free idle ≡ 1
@@ -169,6 +179,10 @@ computed =
       commitsOver = refl;
       looksUp = refl;
       looksUpSome = refl;
+      overwrites = refl;
+      readyWrites = refl;
+      readyHead = refl;
+      readyFree = refl;
       begins = refl;
       idleFree = refl;
       idleLinks = (refl, refl, refl, refl);
@@ -342,3 +356,12 @@ pub a-lookup-of-candidates-lists-the-key : ListsKey locking 0 75 1 (rowsToRead l
 a-lookup-of-candidates-lists-the-key =
     lookup-lists-exactly-the-rows-with-the-key locking 0 2 75 (1 ∷ 0 ∷ 1 ∷ []) 1
     (accepted-none inAnswer locking _ _ _ (lookup-refuses-exactly locking 0 2 75 (1 ∷ 0 ∷ 1 ∷ []) 1) (λ k x e. not-refused (Listed 1) refl k x (sym (computed .looksUpSome) ∙ e)))
+
+-- the head is locked for the writer
+pub a-write-locks-the-base : versionAt (writeOut ready 0 2 0 (some 75) .after .cells) (headAt ready 0) ≡ lockedFor (versionAt (ready .cells) (headAt ready 0)) 2
+a-write-locks-the-base =
+    write-locks-the-base ready 0 2 0 (some 75)
+    (accepted-none inAnswer ready _ _ _ (write-refuses-exactly ready 0 2 0 (some 75)) (λ k x e. not-refused (Wrote (at 2)) refl k x (sym (computed .overwrites) ∙ e)))
+    (rw (computed .readyWrites) tt)
+    (λ e. omega (arith, e, computed .readyHead))
+    (λ e. omega (arith, e, computed .readyHead, computed .readyFree))
