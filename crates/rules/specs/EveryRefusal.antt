@@ -1,5 +1,5 @@
 -- Every refusal of every call: one table for each call, in the paper's order, and one theorem. "Order: sizes and clock, slot, owner,
--- counts, row, then the call's steps as told." Then 4, 5, 6, 3 and 2, each alone.
+-- counts, row, then the call's steps as told." Then 4, 5, 1, 3 and 2, each alone; 6 stands with 15.
 use Prim.Native.Nat.{ℕ, _≤_, _<_}
 use mathlib.Core.List.{List, [], _∷_, _++_}
 use mathlib.Core.Path.{_≡_, refl, subst}
