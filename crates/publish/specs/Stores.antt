@@ -18,7 +18,8 @@ use Rattle.rules.specs.Commit.{markBase, publish, publishAll}
 use Rattle.rules.specs.Theory.Bridge.{AllIn, has-cell}
 use Rattle.rules.specs.Theory.Cases.{byEq}
 use Rattle.rules.specs.Theory.CellLaws.{HasCell, length-put, put-on, put-link, put-else, put-off}
-use Rattle.rules.specs.Theory.Inv.{All, all-map}
+use Rattle.rules.specs.Reachable.{All}
+use Rattle.rules.specs.Theory.Inv.{all-map}
 
 -- a base is marked, a new version linked to its base, a row's head moved
 pub data Store : Type 0 where

@@ -1,6 +1,6 @@
 -- Demand 3: every reader, any history. Each theorem is of every reachable store: any lent memory, an accepted creation, any calls
 -- after it (Reachable.antt), with the log of those calls and their replies (History.antt). The functions are those that the public
--- contracts cite, at any sizes z whose slots are wide enough. What a longer walk limit changes stands in WalkLimit.antt.
+-- contracts cite, at any sizes z whose slots are wide enough. What a longer walk limit changes stands in LongerWalk.antt.
 use mathlib.Core.Bool.{true, false}
 use mathlib.Core.List.{_∷_, [], List}
 use mathlib.Core.Logic.{_≢_, _⊎_}

@@ -1,5 +1,5 @@
 -- The theory of the rules: what holds of every store that our calls lead to. Its theorems stand in Demand3.antt; nothing else here is
--- meant to be cited.
+-- meant to be cited but the laws of cells and of cases.
 
 -- stores and what is read back
 pub mod Cases

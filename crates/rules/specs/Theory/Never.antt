@@ -29,7 +29,7 @@ use Rattle.rules.specs.Abort.{news, abortOut, abortTests}
 use Rattle.rules.specs.Vacuum.{vacuumNow, swept, vacuumOut}
 use Rattle.rules.specs.Lookup.{Found, stopped, got, listRow, isKey, findRow, find, lookupEnd, ownRowTests, ownRows, candidateTests, lookupOut, lookupAllOut}
 use Rattle.rules.specs.Run.{write, read, begin, commit, abort, vacuum, lookup, lookupAll, create, Call, replyNumber, step}
-use Rattle.rules.specs.Refusals.{answer-plain}
+use Rattle.rules.specs.RefusedChangesNothing.{answer-plain}
 use Rattle.rules.specs.Reachable.{All}
 use Rattle.rules.specs.Theory.Cases.{byEq, byBool}
 use Rattle.rules.specs.Theory.View.{viewOf, get-slots}

@@ -1,0 +1,2 @@
+pub mod CommitRest
+pub mod AbortRest

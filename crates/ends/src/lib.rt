@@ -1,0 +1,62 @@
+// The two ends of a transaction whose slot was tested: commit and abort. Every test comes before the first store.
+use rules::Answer;
+use rules::CELL_WORDS;
+use rules::TxId;
+use rules::Verdict;
+use rules::WIDTH;
+ghost use mathlib.Core.List.{[]};
+ghost use mathlib.Core.Path.{_≡_};
+ghost use Rattle.rules.specs.Sizes.{base};
+ghost use Rattle.rules.specs.Memory.{mem};
+ghost use Rattle.rules.specs.Outcome.{out};
+ghost use Rattle.rules.specs.Lent.{memIn, memOut};
+ghost use Rattle.gate.specs.FineLaws.{SlotFine};
+ghost use Rattle.ends.specs.CommitRest.{commitRest};
+ghost use Rattle.ends.specs.AbortRest.{abortRest};
+
+// The writes are published together, or nothing is changed and the transaction stays open.
+pub fn commit(
+    meta: &[u64],
+    rows: &mut [u64],
+    cells: &mut [[u64; CELL_WORDS]],
+    slots: &mut [[u64; WIDTH]],
+    slot: u64,
+    id: TxId,
+) -> Answer
+    requires { ⌜ SlotFine (mem {z = base} (now meta) (now rows) (now cells) (now slots)) slot (id .0) ⌝ }
+    ensures { λ a. ⌜ out a [] (memOut meta rows cells slots) ≡ commitRest (memIn meta rows cells slots) slot (id .0) ⌝ }
+{
+    let s = slot as usize;
+    match validate::check_commit(meta, rows, cells, &slots[s]) {
+        Verdict::Refused { number, value } => Answer::Refused { number, value },
+        Verdict::Fine => {
+            publish::publish_all(rows, cells, &slots[s], id);
+            slots[s] = [0; WIDTH];
+            Answer::Done
+        }
+    }
+}
+
+// Bases that this id locked are unlocked, the prepared cells go back in write order, the slot is emptied.
+pub fn abort(
+    meta: &mut [u64],
+    rows: &[u64],
+    cells: &mut [[u64; CELL_WORDS]],
+    slots: &mut [[u64; WIDTH]],
+    slot: u64,
+    id: TxId,
+) -> Answer
+    requires { ⌜ SlotFine (mem {z = base} (now meta) (now rows) (now cells) (now slots)) slot (id .0) ⌝ }
+    ensures { λ a. ⌜ out a [] (memOut meta rows cells slots) ≡ abortRest (memIn meta rows cells slots) slot (id .0) ⌝ }
+{
+    let s = slot as usize;
+    match undo::check_abort(meta, &slots[s]) {
+        Verdict::Refused { number, value } => Answer::Refused { number, value },
+        Verdict::Fine => {
+            undo::unlock_all(cells, &slots[s], id);
+            undo::give_all(meta, cells, &slots[s]);
+            slots[s] = [0; WIDTH];
+            Answer::Done
+        }
+    }
+}
