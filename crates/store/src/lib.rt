@@ -30,6 +30,8 @@ ghost use Rattle.rules.specs.Create.{createOut};
 ghost use Rattle.rules.specs.Begin.{beginOut};
 ghost use Rattle.rules.specs.Read.{readOut};
 ghost use Rattle.rules.specs.Write.{writeOut};
+ghost use Rattle.rules.specs.Commit.{commitOut};
+ghost use Rattle.rules.specs.Abort.{abortOut};
 ghost use Rattle.gate.specs.FineLaws.{StoreFine};
 ghost use Rattle.store.specs.BeginLaws.{beginRest};
 ghost use Rattle.rules.specs.Lent.{memIn, memOut};
@@ -139,5 +141,39 @@ pub fn write(
     match check_slot(meta, rows, cells, slots, slot, id) {
         Verdict::Refused { number, value } => Answer::Refused { number, value },
         Verdict::Fine => access::write(meta, rows, cells, slots, slot, id, row, value),
+    }
+}
+
+// The transaction's writes published together, or a refusal that leaves it open. A transaction without writes just ends.
+pub fn commit(
+    meta: &[u64],
+    rows: &mut [u64],
+    cells: &mut [[u64; CELL_WORDS]],
+    slots: &mut [[u64; WIDTH]],
+    slot: u64,
+    id: TxId,
+) -> Answer
+    ensures { λ a. ⌜ out a [] (memOut meta rows cells slots) ≡ commitOut (memIn meta rows cells slots) slot (id .0) ⌝ }
+{
+    match check_slot(meta, rows, cells, slots, slot, id) {
+        Verdict::Refused { number, value } => Answer::Refused { number, value },
+        Verdict::Fine => ends::commit(meta, rows, cells, slots, slot, id),
+    }
+}
+
+// The transaction's writes dropped.
+pub fn abort(
+    meta: &mut [u64],
+    rows: &[u64],
+    cells: &mut [[u64; CELL_WORDS]],
+    slots: &mut [[u64; WIDTH]],
+    slot: u64,
+    id: TxId,
+) -> Answer
+    ensures { λ a. ⌜ out a [] (memOut meta rows cells slots) ≡ abortOut (memIn meta rows cells slots) slot (id .0) ⌝ }
+{
+    match check_slot(meta, rows, cells, slots, slot, id) {
+        Verdict::Refused { number, value } => Answer::Refused { number, value },
+        Verdict::Fine => ends::abort(meta, rows, cells, slots, slot, id),
     }
 }
