@@ -22,6 +22,8 @@ use rules::Verdict;
 use rules::WIDTH;
 ghost use mathlib.Core.Path.{_≡_};
 ghost use mathlib.Core.List.{[]};
+ghost use lib.ListN.{length};
+ghost use lib.Seq.{sets};
 ghost use Rattle.rules.specs.Outcome.{out};
 ghost use Rattle.rules.specs.Sizes.{base};
 ghost use Rattle.rules.specs.Versions.{given};
@@ -32,6 +34,7 @@ ghost use Rattle.rules.specs.Read.{readOut};
 ghost use Rattle.rules.specs.Write.{writeOut};
 ghost use Rattle.rules.specs.Commit.{commitOut};
 ghost use Rattle.rules.specs.Abort.{abortOut};
+ghost use Rattle.rules.specs.Vacuum.{vacuumOut};
 ghost use Rattle.gate.specs.FineLaws.{StoreFine};
 ghost use Rattle.store.specs.BeginLaws.{beginRest};
 ghost use Rattle.rules.specs.Lent.{memIn, memOut};
@@ -175,5 +178,27 @@ pub fn abort(
     match check_slot(meta, rows, cells, slots, slot, id) {
         Verdict::Refused { number, value } => Answer::Refused { number, value },
         Verdict::Fine => ends::abort(meta, rows, cells, slots, slot, id),
+    }
+}
+
+// The row's versions that no open snapshot can reach any more, unlinked, reported newest first, and given back. A report is an entry of
+// three words: the cell, whether it had a key, the key.
+pub fn vacuum(
+    meta: &mut [u64],
+    rows: &[u64],
+    cells: &mut [[u64; CELL_WORDS]],
+    slots: &[[u64; WIDTH]],
+    row: u64,
+    request: u64,
+    reports: &mut [[u64; 3]],
+) -> Answer
+    ensures { λ a. ⌜ out a (vacuumOut (memIn meta rows cells slots) row request (length (now (reports .entry))) .front) (memOut meta rows cells slots)
+        ≡ vacuumOut (memIn meta rows cells slots) row request (length (now (reports .entry))) ⌝ }
+    ensures { λ _. ⌜ now (reports .exit)
+        ≡ sets (now (reports .entry)) 0 (vacuumOut (memIn meta rows cells slots) row request (length (now (reports .entry))) .front) ⌝ }
+{
+    match check_store(meta, rows, cells, slots) {
+        Verdict::Refused { number, value } => Answer::Refused { number, value },
+        Verdict::Fine => vacuum::vacuum(meta, rows, cells, slots, row, request, reports),
     }
 }
