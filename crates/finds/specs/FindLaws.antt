@@ -70,26 +70,35 @@ new-fits f recs row c new (F.Found.Version d) h e = byBool (recorded (d .0) recs
 
 -- ---- what the words hold
 
--- w: the slot's words. There is room for `more` rows yet
-pub record Holds (w : List ℕ) (more : ℕ) (s : Sweep) (recs : List Rec) (rows : List ℕ) : Type 0 where
+-- w: the slot's words; room: what the caller's buffer holds. `more` rows are yet to be read
+pub record Holds (w : List ℕ) (room more : ℕ) (s : Sweep) (recs : List Rec) (rows : List ℕ) : Type 0 where
   pub counted : s .found .listing ≡ Listing.Rows (length rows)
   pub saved : s .slot ≡ addRecs base recs w
   pub front : take (length rows) (s .found .listed) ≡ rows
-  pub room : length rows + more ≤ length (s .found .listed)
+  pub few : length rows ≤ room
+  pub left : length rows + more ≤ base .rows
+  pub long : base .rows ≤ length (s .found .listed)
   pub fits : getD w (READS base) 0 + length recs ≤ base .reads
 
-abbrev pub Agrees : List ℕ → ℕ → Sweep → Found → Type 0
-Agrees w more s (stopped k x) = s .found .listing ≡ Listing.Stopped k x
-Agrees w more s (got recs rows) = Holds w more s recs rows
+abbrev pub Holding : List ℕ → ℕ → ℕ → Sweep → Found → Type 0
+Holding w room more s (stopped k x) = s .found .listing ≡ Listing.Stopped k x
+Holding w room more s (got recs rows) = Holds w room more s recs rows
 
 module _ (m : Mem base) (w : List ℕ) (ok : SlotOk base w) (key room : ℕ) where
+  abbrev Agrees : ℕ → Sweep → Found → Type 0
+  Agrees more s fd = Holding w room more s fd
+
   abbrev vs : ℕ → Version
   vs = versionAt (m .cells)
 
   module _ (r more : ℕ) (t b : List ℕ) (recs : List Rec) (rows : List ℕ) where
+    -- before the row is read
+    abbrev Room : Type 0
+    Room = (length rows ≤ room) × ((length rows + suc more ≤ base .rows) × (base .rows ≤ length b))
+
     -- the row was read
-    listed-agrees : (c : ℕ) (new : List Rec) → t ≡ addRecs base recs w → take (length rows) b ≡ rows → length rows + suc more ≤ length b → getD w (READS base) 0 + length (recs ++ new) ≤ base .reads
-        → Agrees w more (sweep (addRecs base new t) (listAt vs key room r (length rows) b c)) (listRow m (slotOf base w) key room r recs rows (sees c new))
+    listed-agrees : (c : ℕ) (new : List Rec) → t ≡ addRecs base recs w → take (length rows) b ≡ rows → Room → getD w (READS base) 0 + length (recs ++ new) ≤ base .reads
+        → Agrees more (sweep (addRecs base new t) (listAt vs key room r (length rows) b c)) (listRow m (slotOf base w) key room r recs rows (sees c new))
     unfolding listAt listRow
     listed-agrees c new es ef er le =
         let sv : addRecs base new t ≡ addRecs base (recs ++ new) w = ap (addRecs base new) es ∙ sym (fold-append (addRec base) recs new w) in
@@ -97,19 +106,22 @@ module _ (m : Mem base) (w : List ℕ) (ok : SlotOk base w) (key room : ℕ) whe
         (λ h. byBool (leb room (length rows))
         (λ l. rw (h, l))
         (λ l.
+        let g = leb-false room (length rows) l in
         let n : length (rows ++ (r ∷ [])) ≡ length rows + 1 = length-append rows (r ∷ []) in
         rw (h, l) (record {
           counted = ap Listing.Rows (sym n);
           saved = sv;
           front = rw (n, add-one (length rows)) (take-suc-set b (length rows) r (omega arith) ∙ ap (λ (l : List ℕ). l ++ (r ∷ [])) ef);
-          room = rw (length-set b (length rows) r) (omega arith);
+          few = omega arith;
+          left = omega arith;
+          long = rw (length-set b (length rows) r) (er .1 .1);
           fits = le;
         })))
-        (λ h. rw h (record { counted = refl; saved = sv; front = ef; room = omega arith; fits = le }))
+        (λ h. rw h (record { counted = refl; saved = sv; front = ef; few = er .0; left = omega arith; long = er .1 .1; fits = le }))
 
-    seen-agrees : (g : Sight) → t ≡ addRecs base recs w → take (length rows) b ≡ rows → length rows + suc more ≤ length b → getD w (READS base) 0 + length recs ≤ base .reads
+    seen-agrees : (g : Sight) → t ≡ addRecs base recs w → take (length rows) b ≡ rows → Room → getD w (READS base) 0 + length recs ≤ base .reads
         → readAt m (slotOf base w) (slotOf base w .recs ++ recs) r ≡ g
-        → Agrees w more (seenRow vs (sizeN m) key room r t (length rows) b g) (listRow m (slotOf base w) key room r recs rows g)
+        → Agrees more (seenRow vs (sizeN m) key room r t (length rows) b g) (listRow m (slotOf base w) key room r recs rows g)
     unfolding seenRow listRow
     seen-agrees (blocked k x) es ef er le e = refl
     seen-agrees (sees c new) es ef er le e =
@@ -128,7 +140,7 @@ module _ (m : Mem base) (w : List ℕ) (ok : SlotOk base w) (key room : ℕ) whe
       ap (λ (u : Slot). readRow base (sizeN m) vs (headAt m r) u (u .recs) r) e
       ∙ read-by-parts (sizeN m) vs (headAt m r) (slotOf base w) (slotOf base w .recs ++ recs) (slotOf base w .recs ++ recs) r
 
-  step-agrees : (r more : ℕ) (s : Sweep) (fd : Found) → Agrees w (suc more) s fd → Agrees w more (afterRow vs (sizeN m) key room (m .rows) r s) (findRow m (slotOf base w) key room r fd)
+  step-agrees : (r more : ℕ) (s : Sweep) (fd : Found) → Agrees (suc more) s fd → Agrees more (afterRow vs (sizeN m) key room (m .rows) r s) (findRow m (slotOf base w) key room r fd)
   unfolding goOn stepRow findRow
   step-agrees r more s (stopped k x) a = ap (λ (l : Listing). goOn vs (sizeN m) key room (m .rows) r (s .slot) (s .found .listed) l .found .listing) a
   step-agrees r more s (got recs rows) a =
@@ -137,49 +149,51 @@ module _ (m : Mem base) (w : List ℕ) (ok : SlotOk base w) (key room : ℕ) whe
       let g = readAt m (slotOf base w) (slotOf base w .recs ++ recs) r in
       let e : afterRow vs (sizeN m) key room (m .rows) r s ≡ seenRow vs (sizeN m) key room r t (length rows) b g =
         ap (goOn vs (sizeN m) key room (m .rows) r t b) (a .counted) ∙ ap (seenRow vs (sizeN m) key room r t (length rows) b) (read-copy r t recs (a .saved) (a .fits)) in
-      subst (λ (u : Sweep). Agrees w more u (listRow m (slotOf base w) key room r recs rows g)) (sym e)
-      (seen-agrees r more t b recs rows g (a .saved) (a .front) (a .room) (a .fits) refl)
+      subst (λ (u : Sweep). Agrees more u (listRow m (slotOf base w) key room r recs rows g)) (sym e)
+      (seen-agrees r more t b recs rows g (a .saved) (a .front) (a .few, (a .left, a .long)) (a .fits) refl)
 
-  rows-agree : (l : List ℕ) (s : Sweep) (fd : Found) → Agrees w (length l) s fd
-      → Agrees w 0 (sweepRows vs (sizeN m) key room (m .rows) l s) (fold (findRow m (slotOf base w) key room) l fd)
+  rows-agree : (l : List ℕ) (s : Sweep) (fd : Found) → Agrees (length l) s fd
+      → Agrees 0 (sweepRows vs (sizeN m) key room (m .rows) l s) (fold (findRow m (slotOf base w) key room) l fd)
   unfolding fold
   rows-agree [] s fd a = a
   rows-agree (r ∷ l) s fd a = rows-agree l _ _ (step-agrees r (length l) s fd a)
 
   -- ---- what the code has in hand at the end: u, the copy; l and d, what the rows came to and the list
-  module _ (rows : List ℕ) (b : List ℕ) (room-for : length rows ≤ length b) where
+  module _ (rows : List ℕ) (b : List ℕ) (few : length rows ≤ base .rows) (long : base .rows ≤ length b) where
     swept : Sweep
     swept = sweepRows vs (sizeN m) key room (m .rows) rows (sweep w (note (Listing.Rows 0) b))
 
-    all-agree : Agrees w 0 swept (find m (slotOf base w) key room rows)
+    all-agree : Agrees 0 swept (find m (slotOf base w) key room rows)
     unfolding swept fold
-    all-agree = rows-agree rows _ _ (record { counted = refl; saved = refl; front = refl; room = omega arith; fits = omega (arith, ok .reads) })
+    all-agree = rows-agree rows _ _ (record { counted = refl; saved = refl; front = refl; few = omega arith; left = omega arith; long = long; fits = omega (arith, ok .reads) })
 
     pub record Got (u : List ℕ) (k : ℕ) (d : List ℕ) : Type 0 where
       pub recs : List Rec
       pub is : find m (slotOf base w) key room rows ≡ got recs (take k d)
       pub saved : u ≡ addRecs base recs w
       pub count : length (take k d) ≡ k
+      pub fits : k ≤ room
+      pub most : k ≤ base .rows
 
-    stop-from : (fd : Found) (s : Sweep) (k x : ℕ) → Agrees w 0 s fd → s .found .listing ≡ Listing.Stopped k x → fd ≡ stopped k x
+    stop-from : (fd : Found) (s : Sweep) (k x : ℕ) → Agrees 0 s fd → s .found .listing ≡ Listing.Stopped k x → fd ≡ stopped k x
     stop-from (stopped j y) s k x a e =
         let p : j ≡ k = cc in
         let q : y ≡ x = cc in
         rw (p, q)
     stop-from (got recs rs) s k x a e = absurd (let c = a .counted in let z : _≡_ {A = ℕ} 0 1 = cc in omega arith)
 
-    got-from : (fd : Found) (s : Sweep) (k : ℕ) → find m (slotOf base w) key room rows ≡ fd → Agrees w 0 s fd → s .found .listing ≡ Listing.Rows k → Got (s .slot) k (s .found .listed)
+    got-from : (fd : Found) (s : Sweep) (k : ℕ) → find m (slotOf base w) key room rows ≡ fd → Agrees 0 s fd → s .found .listing ≡ Listing.Rows k → Got (s .slot) k (s .found .listed)
     got-from (stopped j y) s k h a e = absurd (let z : _≡_ {A = ℕ} 0 1 = cc in omega arith)
     got-from (got recs rs) s k h a e =
         let c = a .counted in
         let n : length rs ≡ k = cc in
         let f : take k (s .found .listed) ≡ rs = ap (λ (j : ℕ). take j (s .found .listed)) (sym n) ∙ a .front in
-        record { recs = recs; is = h ∙ ap (got recs) (sym f); saved = a .saved; count = ap length f ∙ n }
+        record { recs = recs; is = h ∙ ap (got recs) (sym f); saved = a .saved; count = ap length f ∙ n; fits = omega (arith, a .few); most = omega (arith, a .left) }
 
     module _ (u d : List ℕ) (l : Listing) (e : sweep u (note l d) ≡ sweepRows vs (sizeN m) key room (m .rows) rows (sweep w (note (Listing.Rows 0) b))) where
-      agrees : Agrees w 0 (sweep u (note l d)) (find m (slotOf base w) key room rows)
+      agrees : Agrees 0 (sweep u (note l d)) (find m (slotOf base w) key room rows)
       unfolding swept
-      agrees = subst (λ (s : Sweep). Agrees w 0 s (find m (slotOf base w) key room rows)) (sym e) all-agree
+      agrees = subst (λ (s : Sweep). Agrees 0 s (find m (slotOf base w) key room rows)) (sym e) all-agree
 
       pub find-stopped : (k x : ℕ) → l ≡ Listing.Stopped k x → find m (slotOf base w) key room rows ≡ stopped k x
       find-stopped k x h = stop-from _ _ k x agrees h
