@@ -148,7 +148,7 @@ module _ (m : Mem base) (w : List ℕ) (ok : SlotOk base w) (key room : ℕ) whe
       let b = s .found .listed in
       let g = readAt m (slotOf base w) (slotOf base w .recs ++ recs) r in
       let e : afterRow vs (sizeN m) key room (m .rows) r s ≡ seenRow vs (sizeN m) key room r t (length rows) b g =
-        ap (goOn vs (sizeN m) key room (m .rows) r t b) (a .counted) ∙ ap (seenRow vs (sizeN m) key room r t (length rows) b) (read-copy r t recs (a .saved) (a .fits)) in
+      ap (goOn vs (sizeN m) key room (m .rows) r t b) (a .counted) ∙ ap (seenRow vs (sizeN m) key room r t (length rows) b) (read-copy r t recs (a .saved) (a .fits)) in
       subst (λ (u : Sweep). Agrees more u (listRow m (slotOf base w) key room r recs rows g)) (sym e)
       (seen-agrees r more t b recs rows g (a .saved) (a .front) (a .few, (a .left, a .long)) (a .fits) refl)
 

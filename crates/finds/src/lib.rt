@@ -189,13 +189,23 @@ fn step_marked(
     requires { ⌜ row < length (now rows) ⌝ }
     ensures { λ l. ⌜ sweep (now (slot .exit)) (note l (now (listed .exit)))
         ≡ cond (nonzero mark)
-          (stepRow (versionAt (now (cells .entry))) n key room (getD (now (rows .entry)) row 0) row (now (slot .entry)) count (now (listed .entry)))
-          (sweep (now (slot .entry)) (note (Rows count) (now (listed .entry)))) ⌝ }
+        (stepRow (versionAt (now (cells .entry))) n key room (getD (now (rows .entry)) row 0) row (now (slot .entry)) count (now (listed .entry)))
+        (sweep (now (slot .entry)) (note (Rows count) (now (listed .entry)))) ⌝ }
 {
     if mark == 0 {
         return Listing::Rows(count);
     }
-    step(cells, n, slot, listed, count, room, row, Cell(rows[row as usize]), key)
+    step(
+        cells,
+        n,
+        slot,
+        listed,
+        count,
+        room,
+        row,
+        Cell(rows[row as usize]),
+        key,
+    )
 }
 
 // Every marked row below r, ascending, until one stops the lookup.
@@ -214,7 +224,7 @@ pub fn scan(
     requires { ⌜ r ≤ length (now rows) ⌝ }
     ensures { λ l. ⌜ sweep (now (slot .exit)) (note l (now (listed .exit)))
         ≡ sweepRows (versionAt (now (cells .entry))) n key room (now (rows .entry)) (markedRows (now (marks .entry)) 0 r)
-          (sweep (now (slot .entry)) (note (Rows 0) (now (listed .entry)))) ⌝ }
+        (sweep (now (slot .entry)) (note (Rows 0) (now (listed .entry)))) ⌝ }
 {
     let mut row: u64 = 0;
     let mut count: u64 = 0;

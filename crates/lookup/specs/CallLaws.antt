@@ -9,7 +9,7 @@ use Rattle.rules.specs.Lists.{fold}
 use Rattle.rules.specs.Memory.{Mem, sizeR, slotAt}
 use Rattle.rules.specs.Outcome.{each, refuse}
 use Rattle.rules.specs.Verdicts.{verdict, guard-fine, guard-refused}
-use Rattle.rules.specs.Lookup.{find, candidateTests, ownRowTests, ownRows}
+use Rattle.rules.specs.Lookup.{find, candidateTests, ownRowTests, ownRows, rowsToRead}
 use Rattle.finds.specs.Marks.{marked}
 use Rattle.lookup.specs.RowLaws.{zeros, ones, rows-marked, rows-all}
 use Rattle.lookup.specs.LookupRest.{endBy, searchOut, rowsOut, lookupRest, lookupAllRest, end-by}
@@ -26,9 +26,11 @@ module _ (m : Mem base) (s key room : ℕ) (few : sizeR m ≤ base .rows) where
       → marks ≡ fold marked (ownRows (slotAt m s .writes)) (fold marked cands zeros)
       → searchOut m s key marks v room ≡ rowsOut m s key cands room
   search-rows cands marks v e h =
-      ap (λ (rows : List ℕ). endBy m s v (find m (slotAt m s) key room rows)) (rows-marked m few (slotAt m s .writes) cands marks h)
-      ∙ ap (λ (w : Verdict). endBy m s w (find m (slotAt m s) key room _)) e
-      ∙ end-by m s _ (find m (slotAt m s) key room _)
+      let ws = slotAt m s .writes in
+      let found = find m (slotAt m s) key room (rowsToRead m ws cands) in
+      ap (λ (rows : List ℕ). endBy m s v (find m (slotAt m s) key room rows)) (rows-marked m few ws cands marks h)
+      ∙ ap (λ (w : Verdict). endBy m s w found) e
+      ∙ end-by m s (each (ownRowTests m) (ownRows ws)) found
 
 -- 6 comes before any row is read
 module _ (m : Mem base) (s key : ℕ) (cands : List ℕ) (room : ℕ) where

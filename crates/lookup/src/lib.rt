@@ -82,7 +82,17 @@ fn search(
     width(copy);
     let mut listed = [0; MOST_ROWS];
     let room = results.len() as u64;
-    match finds::scan(rows, cells, meta[ROWS], meta[CELLS], &mut copy, marks, &mut listed, room, key) {
+    match finds::scan(
+        rows,
+        cells,
+        meta[ROWS],
+        meta[CELLS],
+        &mut copy,
+        marks,
+        &mut listed,
+        room,
+        key,
+    ) {
         Listing::Stopped { number, value } => Answer::Refused { number, value },
         Listing::Rows(count) => match late {
             Verdict::Refused { number, value } => Answer::Refused { number, value },
@@ -116,7 +126,18 @@ fn lookup_rows(
     finds::mark_all(&mut marks, candidates);
     finds::mark_own(&mut marks, &slots[s]);
     let late = finds::check_own(&slots[s], meta[ROWS]);
-    search(meta, rows, cells, slots, slot, id, key, &marks, late, results)
+    search(
+        meta,
+        rows,
+        cells,
+        slots,
+        slot,
+        id,
+        key,
+        &marks,
+        late,
+        results,
+    )
 }
 
 // The rows with this key among the candidates and the own rows, ascending, at the front of `results`.
@@ -157,5 +178,16 @@ pub fn lookup_all(
         a (memOut meta rows cells slots) (now (results .entry)) (now (results .exit)) ⌝ }
 {
     let marks = [1; MOST_ROWS];
-    search(meta, rows, cells, slots, slot, id, key, &marks, Verdict::Fine, results)
+    search(
+        meta,
+        rows,
+        cells,
+        slots,
+        slot,
+        id,
+        key,
+        &marks,
+        Verdict::Fine,
+        results,
+    )
 }

@@ -61,7 +61,7 @@ same-length-2 c = search needs
 
 -- src/lib.rt:99:1
 returns : tie.Need-returns
-returns c = filled-is _ _ _ _ _ (c .before .before .before .search .ensures) (search-rows (mem (c .before .before .before .before .before .before .before .before .before .before .before .before .before .before .before .before .before .before .before .args .meta .now) (c .before .before .before .before .before .before .before .before .before .before .before .before .before .before .before .before .before .before .before .args .rows .now) (c .before .before .before .before .before .before .before .before .before .before .before .before .before .before .before .before .before .before .before .args .cells .now) (c .before .before .before .before .before .before .before .before .before .before .before .before .before .before .before .before .before .before .before .args .slots .now)) (c .before .before .before .before .before .before .before .before .before .before .before .before .before .before .before .before .before .before .before .args .slot) (c .before .before .before .before .before .before .before .before .before .before .before .before .before .before .before .before .before .before .before .args .key) _ (c .before .before .before .before .before .before .before .before .before .before .before .before .before .before .before .before .before .before .before .pre .store .fits .fewRows) (c .before .before .before .before .before .before .before .before .before .before .before .before .before .before .before .before .before .before .before .args .candidates .now) _ _ (c .before .before .before .before .before .before .before .check-own .ensures) (c .before .before .before .before .before .before .before .before .before .before .mark-own .ensures ∙ ap (fold marked _) (c .before .before .before .before .before .before .before .before .before .before .before .before .before .mark-all .ensures)))
+returns c = filled-is _ _ _ _ _ _ (c .before .before .before .search .ensures) (search-rows (mem (c .before .before .before .before .before .before .before .before .before .before .before .before .before .before .before .before .before .before .before .args .meta .now) (c .before .before .before .before .before .before .before .before .before .before .before .before .before .before .before .before .before .before .before .args .rows .now) (c .before .before .before .before .before .before .before .before .before .before .before .before .before .before .before .before .before .before .before .args .cells .now) (c .before .before .before .before .before .before .before .before .before .before .before .before .before .before .before .before .before .before .before .args .slots .now)) (c .before .before .before .before .before .before .before .before .before .before .before .before .before .before .before .before .before .before .before .args .slot) (c .before .before .before .before .before .before .before .before .before .before .before .before .before .before .before .before .before .before .before .args .key) _ (c .before .before .before .before .before .before .before .before .before .before .before .before .before .before .before .before .before .before .before .pre .store .fits .fewRows) (c .before .before .before .before .before .before .before .before .before .before .before .before .before .before .before .before .before .before .before .args .candidates .now) _ _ (c .before .before .before .before .before .before .before .check-own .ensures) (c .before .before .before .before .before .before .before .before .before .before .mark-own .ensures ∙ ap (fold marked _) (c .before .before .before .before .before .before .before .before .before .before .before .before .before .mark-all .ensures)))
 
 pub lookup-rows-spec : {M : Type 1} → statement M
 lookup-rows-spec =
