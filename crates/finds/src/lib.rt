@@ -84,17 +84,17 @@ pub fn check_candidates(candidates: &[u64], r: u64) -> Verdict
 pub fn check_own(slot: &[u64; WIDTH], r: u64) -> Verdict
     ensures { λ v. ⌜ v ≡ verdict (each (ownRowTest r) (ownRows (slotOf base (now (slot .entry)) .writes))) ⌝ }
 {
-    let mut left = rules::at_most(slot[WRITES], MOST_WRITES as u64);
-    let mut e = WRITES + 1;
-    while left > 0 {
-        if r <= slot[e] {
+    let mut rest = rules::at_most(slot[WRITES], MOST_WRITES as u64);
+    let mut at = WRITES + 1;
+    while rest > 0 {
+        if r <= slot[at] {
             return Verdict::Refused {
                 number: DAMAGED,
                 value: 0,
             };
         }
-        e += 3;
-        left -= 1;
+        at += 3;
+        rest -= 1;
     }
     Verdict::Fine
 }
@@ -136,14 +136,15 @@ fn list_row(
     if !has_key(cells, c, key) {
         return Listing::Rows(count);
     }
-    if room <= count {
+    let next = count + 1;
+    if room < next {
         return Listing::Stopped {
             number: RESULT_FULL,
             value: 0,
         };
     }
     listed[count as usize] = row;
-    Listing::Rows(count + 1)
+    Listing::Rows(next)
 }
 
 // One row read. `slot` is the copy, so a cell found for two rows is recorded once.

@@ -27,15 +27,15 @@ pub fn front<'a>(buffer: &'a [u64], count: u64) -> &'a [u64]
     if (buffer.len() as u64) < count {
         return buffer;
     }
-    let n = count as usize;
-    &buffer[..n]
+    let end = count as usize;
+    &buffer[..end]
 }
 
 // The same, to be written.
 pub fn front_mut<'a>(buffer: &'a mut [u64], count: u64) -> &'a mut [u64]
     ensures { λ r. ⌜ now r ≡ frontOf (now (buffer .entry)) count ⌝ }
 {
-    if (buffer.len() as u64) < count {
+    if count > buffer.len() as u64 {
         return buffer;
     }
     let n = count as usize;

@@ -16,10 +16,10 @@ use Rattle.finds.proofs.check_own.Lts as lts
 use Rattle.rules.proofs.at_most.Reads as at-most-reads
 
 abbrev Inv-loop : tie.InvT-loop
-Inv-loop slot r left₀ e₀ left e = (e + 3 * left ≤ base .width) × (verdict (each (ownRowTest r) (ownRows (threes write slot e left))) ≡ verdict (each (ownRowTest r) (ownRows (slotOf base slot .writes))))
+Inv-loop slot r rest₀ at₀ rest at = (at + 3 * rest ≤ base .width) × (verdict (each (ownRowTest r) (ownRows (threes write slot at rest))) ≡ verdict (each (ownRowTest r) (ownRows (slotOf base slot .writes))))
 
 abbrev μ-loop : tie.MeasureT-loop
-μ-loop slot r left₀ e₀ left e = left
+μ-loop slot r rest₀ at₀ rest at = rest
 
 -- src/lib.rt:87:35
 element-copy-out-at-most : tie.Need-element-copy-out-at-most Inv-loop μ-loop
@@ -30,8 +30,8 @@ at-most-requires : tie.Need-at-most-requires Inv-loop μ-loop
 at-most-requires c κs = search needs
 
 -- src/lib.rt:88:17
-add-e : tie.Need-add-e Inv-loop μ-loop
-add-e c = omega arith
+add-at : tie.Need-add-at Inv-loop μ-loop
+add-at c = omega arith
 
 -- src/lib.rt:89:5
 loop-holds : tie.Need-loop-holds Inv-loop μ-loop
@@ -51,12 +51,12 @@ returns : tie.Need-returns Inv-loop μ-loop
 returns c = sym (tests-stop _ _ _ (own-rows-next _ _ _ (c .before .before .loop-test .taken)) (ownRowTest (c .before .before .before .before .before .before .args .r)) _ _ _ refl (le-leb _ _ (c .if1 .taken))) ∙ c .before .before .before .loop .inv .1
 
 -- src/lib.rt:96:9
-add-e-2 : tie.Need-add-e-2 Inv-loop μ-loop
-add-e-2 c = omega arith
+add-at-2 : tie.Need-add-at-2 Inv-loop μ-loop
+add-at-2 c = omega arith
 
 -- src/lib.rt:97:9
-sub-left : tie.Need-sub-left Inv-loop μ-loop
-sub-left c = omega arith
+sub-rest : tie.Need-sub-rest Inv-loop μ-loop
+sub-rest c = omega arith
 
 -- src/lib.rt:89:5
 loop-less : tie.Need-loop-less Inv-loop μ-loop
@@ -78,13 +78,13 @@ check-own-spec =
     μ-loop
     element-copy-out-at-most
     at-most-requires
-    add-e
+    add-at
     loop-holds
     mul-if1
     element-copy-out-if1
     returns
-    add-e-2
-    sub-left
+    add-at-2
+    sub-rest
     loop-less
     loop-again
     returns-2)

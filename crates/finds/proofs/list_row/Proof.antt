@@ -1,3 +1,4 @@
+use native.Mathlib.Omega.{arith}
 use mathlib.Core.Path.{_≡_, refl, sym, ap, _∙_}
 use borrow.Author.Tests.{le-leb, lt-leb, not-true, not-false}
 use Rattle.finds.specs.Sweep.{listAt}
@@ -17,29 +18,36 @@ returns : tie.Need-returns
 unfolding listAt
 returns c = rw (sym (c .before .has-key .ensures) ∙ not-true _ (c .if1 .taken))
 
--- src/lib.rt:140:9
+-- src/lib.rt:139:16
+add-next : tie.Need-add-next
+add-next c = search needs
+
+-- src/lib.rt:141:9
 returns-2 : tie.Need-returns-2
 unfolding listAt
-returns-2 c = rw (sym (c .before .before .has-key .ensures) ∙ not-false _ (c .before .if1 .left), le-leb _ _ (c .if2 .taken))
+returns-2 c = rw (sym (c .before .before .has-key .ensures) ∙ not-false _ (c .before .if1 .left), le-leb (c .before .before .before .args .room) (c .before .before .before .args .count) (omega arith))
 
--- src/lib.rt:145:5
+-- src/lib.rt:146:5
 mul-listed : tie.Need-mul-listed
 mul-listed c = search needs
 
--- src/lib.rt:145:5
+-- src/lib.rt:146:5
 element-write-listed : tie.Need-element-write-listed
 element-write-listed c = search needs
-
--- src/lib.rt:146:19
-add-t14 : tie.Need-add-t14
-add-t14 c = search needs
 
 -- src/lib.rt:124:1
 returns-3 : tie.Need-returns-3
 unfolding listAt
-returns-3 c = rw (sym (c .before .before .has-key .ensures) ∙ not-false _ (c .before .if1 .left), lt-leb _ _ (c .if2 .left))
+returns-3 c = rw (sym (c .before .before .has-key .ensures) ∙ not-false _ (c .before .if1 .left), lt-leb (c .before .before .before .args .room) (c .before .before .before .args .count) (omega arith))
 
 pub list-row-spec : {M : Type 1} → statement M
 list-row-spec =
     tie.close
-    (tie.spec has-key-requires returns returns-2 mul-listed element-write-listed add-t14 returns-3)
+    (tie.spec
+    has-key-requires
+    returns
+    add-next
+    returns-2
+    mul-listed
+    element-write-listed
+    returns-3)
