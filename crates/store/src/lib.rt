@@ -35,6 +35,7 @@ ghost use Rattle.rules.specs.Write.{writeOut};
 ghost use Rattle.rules.specs.Commit.{commitOut};
 ghost use Rattle.rules.specs.Abort.{abortOut};
 ghost use Rattle.rules.specs.Vacuum.{vacuumOut};
+ghost use Rattle.rules.specs.Lookup.{lookupOut, lookupAllOut, frontOf};
 ghost use Rattle.gate.specs.FineLaws.{StoreFine};
 ghost use Rattle.store.specs.BeginLaws.{beginRest};
 ghost use Rattle.rules.specs.Lent.{memIn, memOut};
@@ -201,4 +202,66 @@ pub fn vacuum(
         Verdict::Refused { number, value } => Answer::Refused { number, value },
         Verdict::Fine => vacuum::vacuum(meta, rows, cells, slots, row, request, reports),
     }
+}
+
+// The rows among the candidates and the own written rows that have the key, ascending, at the front of `results`.
+pub fn lookup(
+    meta: &[u64],
+    rows: &[u64],
+    cells: &[[u64; CELL_WORDS]],
+    slots: &mut [[u64; WIDTH]],
+    slot: u64,
+    id: TxId,
+    key: u64,
+    candidates: &[u64],
+    results: &mut [u64],
+) -> Answer
+    ensures { λ a. ⌜ out a (lookupOut (memIn meta rows cells slots) slot (id .0) key (now (candidates .entry)) (length (now (results .entry))) .front) (memOut meta rows cells slots)
+        ≡ lookupOut (memIn meta rows cells slots) slot (id .0) key (now (candidates .entry)) (length (now (results .entry))) ⌝ }
+    ensures { λ _. ⌜ now (results .exit)
+        ≡ sets (now (results .entry)) 0 (lookupOut (memIn meta rows cells slots) slot (id .0) key (now (candidates .entry)) (length (now (results .entry))) .front) ⌝ }
+{
+    match check_slot(meta, rows, cells, slots, slot, id) {
+        Verdict::Refused { number, value } => Answer::Refused { number, value },
+        Verdict::Fine => lookup::lookup(
+            meta,
+            rows,
+            cells,
+            slots,
+            slot,
+            id,
+            key,
+            candidates,
+            results,
+        ),
+    }
+}
+
+// The same over all rows.
+pub fn lookup_all(
+    meta: &[u64],
+    rows: &[u64],
+    cells: &[[u64; CELL_WORDS]],
+    slots: &mut [[u64; WIDTH]],
+    slot: u64,
+    id: TxId,
+    key: u64,
+    results: &mut [u64],
+) -> Answer
+    ensures { λ a. ⌜ out a (lookupAllOut (memIn meta rows cells slots) slot (id .0) key (length (now (results .entry))) .front) (memOut meta rows cells slots)
+        ≡ lookupAllOut (memIn meta rows cells slots) slot (id .0) key (length (now (results .entry))) ⌝ }
+    ensures { λ _. ⌜ now (results .exit)
+        ≡ sets (now (results .entry)) 0 (lookupAllOut (memIn meta rows cells slots) slot (id .0) key (length (now (results .entry))) .front) ⌝ }
+{
+    match check_slot(meta, rows, cells, slots, slot, id) {
+        Verdict::Refused { number, value } => Answer::Refused { number, value },
+        Verdict::Fine => lookup::lookup_all(meta, rows, cells, slots, slot, id, key, results),
+    }
+}
+
+// The filled front of a result buffer, as a part of it. A count past the end gives the whole buffer.
+pub fn front<'a>(buffer: &'a [u64], count: u64) -> &'a [u64]
+    ensures { λ r. ⌜ now r ≡ frontOf (now (buffer .entry)) count ⌝ }
+{
+    lookup::front(buffer, count)
 }
