@@ -66,6 +66,14 @@ module _ (s : List ℕ) (v i : ℕ) where
   unfolding readOn allDigits valueOn
   read-step h a b = rw (add-one i, drop-cons s i 0 h, le-leb 48 (getD s i 0) a, le-leb (getD s i 0) 57 b)
 
+pub number-bad : (s : List ℕ) → leads s ≡ false → numberOf s ≡ none
+unfolding numberOf
+number-bad s e = rw e
+
+pub number-start : (s : List ℕ) → leads s ≡ true → readOn 0 s ≡ numberOf s
+unfolding numberOf
+number-start s e = rw e
+
 -- ---- a number is put from its last digit back
 
 -- the last k digits of n
@@ -123,6 +131,27 @@ count-step k n h = rw (spell-long k n h, length-append (spell k (n / 10)) ((48 +
 pub small : (j n : ℕ) → n < 10 ^ suc j → n / 10 < 10 ^ j
 small j n h = omega (arith, rw (pow-suc 10 j) at h)
 
+-- a number with a digit more to come has room for it
+pub enough : (k n : ℕ) → k ≤ most → n < 10 ^ suc (most - k) → 10 ≤ n → k < most
+enough k n h f t = by (ltb k most) refl
+  where
+    by : (b : Bool) → ltb k most ≡ b → k < most
+    by true e = ltb-true k most e
+    by false e =
+        let q : k ≡ most = omega (arith, ltb-false k most e) in
+        let g : n < 10 ^ suc (most - most) = rw q at f in
+        absurd (omega arith)
+
+pub again : (w k n : ℕ) → k < most → n < 10 ^ suc (most - k) → 10 ≤ n → k + length (spell (suc (most - k)) n) ≡ w
+    → (1 ≤ k + 1) × (k + 1 ≤ most) × (n / 10 < 10 ^ suc (most - (k + 1))) × (k + 1 + length (spell (suc (most - (k + 1))) (n / 10)) ≡ w)
+again w k n h f t e =
+    let q : suc (most - (k + 1)) ≡ most - k = omega arith in (
+      omega arith,
+      omega arith,
+      rw q (small (most - k) n f),
+      rw q (omega (arith, count-step (most - k) n t)),
+    )
+
 -- ---- bytes put one by one, the last first
 
 sets-snoc : (l : List ℕ) (a : ℕ) (s : List ℕ) (d : ℕ) → sets l a (s ++ (d ∷ [])) ≡ sets (set l (a + length s) d) a s
@@ -141,6 +170,9 @@ put-step l a (suc i) n h =
     let e : suc i - 1 ≡ i = omega arith in
     rw e (sym (sets-snoc l a (lastDigits i (n / 10)) (48 + n % 10)
     ∙ ap (λ (k : ℕ). sets (set l (a + k) (48 + n % 10)) a (lastDigits i (n / 10))) (length-last i (n / 10))))
+
+pub put-start : (l : List ℕ) (a n k : ℕ) → k ≡ length (digits n) → sets l a (lastDigits k n) ≡ sets l a (digits n)
+put-start l a n k e = rw (e, spell-last most n)
 
 pub put-done : (l : List ℕ) (a i n : ℕ) → i ≤ 0 → sets l a (lastDigits i n) ≡ l
 unfolding lastDigits
@@ -166,7 +198,7 @@ digits-snoc (b ∷ l) d e f = both (isDigit b) (allDigits l) (allDigits (l ++ (d
 digit-is : (m : ℕ) → m < 10 → isDigit (48 + m) ≡ true
 digit-is m h = rw (le-leb 48 (48 + m) (omega arith), le-leb (48 + m) 57 (omega arith))
 
-spell-digits : (k n : ℕ) → allDigits (spell k n) ≡ true
+pub spell-digits : (k n : ℕ) → allDigits (spell k n) ≡ true
 unfolding spell allDigits
 spell-digits zero n = refl
 spell-digits (suc k) n =
@@ -212,7 +244,7 @@ spell-heads (suc k) n p f =
     (heads-short (suc k) n p)
     (λ h. rw (spell-long (suc k) n h) (heads-more (spell (suc k) (n / 10)) ((48 + n % 10) ∷ []) (spell-heads k (n / 10) (omega arith) (small (suc k) n f))))
 
-digits-lead : (n : ℕ) → n < 2 ^ 64 → leads (digits n) ≡ true
+pub digits-lead : (n : ℕ) → n < 2 ^ 64 → leads (digits n) ≡ true
 unfolding leads spell
 digits-lead zero h = refl
 digits-lead (suc n) h = heads-leads (digits (suc n)) (spell-heads 19 (suc n) (omega arith) (omega arith))
@@ -222,37 +254,3 @@ pub round-trip : (n : ℕ) → n < 2 ^ 64 → numberOf (digits n) ≡ some n
 unfolding numberOf readOn
 round-trip n h =
     rw (digits-lead n h, spell-digits most n, spell-value 19 n (omega arith), lt-ltb n (2 ^ 64) h)
-
--- ---- the two ends of the code's loop
-
-pub number-bad : (s : List ℕ) → leads s ≡ false → numberOf s ≡ none
-unfolding numberOf
-number-bad s e = rw e
-
-pub number-start : (s : List ℕ) → leads s ≡ true → readOn 0 s ≡ numberOf s
-unfolding numberOf
-number-start s e = rw e
-
--- a number with a digit more to come has room for it
-pub enough : (k n : ℕ) → k ≤ most → n < 10 ^ suc (most - k) → 10 ≤ n → k < most
-enough k n h f t = by (ltb k most) refl
-  where
-    by : (b : Bool) → ltb k most ≡ b → k < most
-    by true e = ltb-true k most e
-    by false e =
-        let q : k ≡ most = omega (arith, ltb-false k most e) in
-        let g : n < 10 ^ suc (most - most) = rw q at f in
-        absurd (omega arith)
-
-pub again : (w k n : ℕ) → k < most → n < 10 ^ suc (most - k) → 10 ≤ n → k + length (spell (suc (most - k)) n) ≡ w
-    → (1 ≤ k + 1) × (k + 1 ≤ most) × (n / 10 < 10 ^ suc (most - (k + 1))) × (k + 1 + length (spell (suc (most - (k + 1))) (n / 10)) ≡ w)
-again w k n h f t e =
-    let q : suc (most - (k + 1)) ≡ most - k = omega arith in (
-      omega arith,
-      omega arith,
-      rw q (small (most - k) n f),
-      rw q (omega (arith, count-step (most - k) n t)),
-    )
-
-pub put-start : (l : List ℕ) (a n k : ℕ) → k ≡ length (digits n) → sets l a (lastDigits k n) ≡ sets l a (digits n)
-put-start l a n k e = rw (e, spell-last most n)

@@ -2,3 +2,4 @@ pub mod Lines
 pub mod Fields
 pub mod Words
 pub mod Calls
+pub mod Printed
