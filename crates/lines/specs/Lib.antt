@@ -1,0 +1,5 @@
+pub mod Lines
+pub mod Fields
+pub mod Words
+pub mod Calls
+pub mod Printed
