@@ -186,8 +186,11 @@ fn write_at(s: &[u8], at: usize) -> Line
             }
             match number_at(s, end) {
                 Field::Nothing => Line::Other,
-                Field::Is { value: key, end: e } => {
-                    if e == s.len() {
+                Field::Is {
+                    value: key,
+                    end: last,
+                } => {
+                    if last == s.len() {
                         return Line::Write {
                             slot: a,
                             id: b,
