@@ -5,8 +5,8 @@ use rules::LAST_ID;
 use rules::SLOTS;
 use rules::WIDTH;
 
-// The memory that a creation is lent, and, as it should be afterwards, the memory that is expected. Every word is 7 at first: a
-// slot of id 7 is taken, so that the store under the new one has every slot in use.
+// Every word that is lent is 7, here and in the tests below. A slot of id 7 is taken: the store under the new one has every slot in
+// use.
 fn refused(name: &[u8], n: u64, r: u64) {
     let mut meta = [7; 5];
     let mut rows = [7; 257];
