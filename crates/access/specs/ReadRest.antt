@@ -1,19 +1,17 @@
 -- What is left of a read once the slot is tested, and its ways out.
 use Prim.Native.Nat.{ℕ, _≤_, _<_}
-use mathlib.Core.Bool.{Bool, true, false, cond}
-use mathlib.Core.List.{List, [], _∷_, _++_}
-use mathlib.Core.Path.{_≡_, refl, sym, ap, _∙_}
-use native.Mathlib.Omega.{arith}
-use lib.ListN.{getD, set}
+use mathlib.Core.List.{List, [], _∷_}
+use mathlib.Core.Path.{_≡_, sym, ap, _∙_}
+use lib.ListN.{set}
 use lib.Seq.{set-getD}
 use borrow.Author.Tests.{le-leb, lt-leb}
-use Rattle.rules.specs.declared.ReadAnswer.{ReadAnswer}
-use Rattle.rules.specs.Sizes.{Sizes}
+use Rattle.kinds.specs.declared.ReadAnswer.{ReadAnswer}
+use Rattle.kinds.specs.Sizes.{Sizes}
 use Rattle.rules.specs.Numbers.{badRow}
-use Rattle.rules.specs.Lists.{fold}
-use Rattle.rules.specs.Versions.{versionAt}
-use Rattle.rules.specs.Slots.{Rec, addRec}
-use Rattle.rules.specs.Memory.{Mem, mem, sizeR, wordsAt, slotAt, withSlot}
+use Rattle.kinds.specs.Lists.{fold}
+use Rattle.kinds.specs.Versions.{versionAt}
+use Rattle.kinds.specs.Slots.{Rec, addRec}
+use Rattle.rules.specs.Memory.{Mem, mem, sizeR, wordsAt, slotAt}
 use Rattle.rules.specs.Outcome.{Outcome, out, guard, refuseRead, slotTests, rowTest}
 use Rattle.rules.specs.Verdicts.{guard-append}
 use Rattle.rules.specs.Read.{Sight, blocked, sees, answerAt, readAt, readEnd, readOut}

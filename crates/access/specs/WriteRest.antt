@@ -1,22 +1,22 @@
 -- What is left of a write once the slot is tested, and its ways out.
 use Prim.Native.Nat.{ℕ, _≤_, _<_}
-use mathlib.Core.Bool.{Bool, true, false, not, cond}
-use mathlib.Core.List.{List, [], _∷_, _++_}
+use mathlib.Core.Bool.{not}
+use mathlib.Core.List.{List, [], _∷_}
 use mathlib.Core.Option.{Option, none, some}
 use mathlib.Core.Path.{_≡_, refl, sym, ap, _∙_}
 use mathlib.Core.Logic.{_≢_}
 use native.Mathlib.Omega.{arith}
-use lib.ListN.{length, getD, set}
+use lib.ListN.{getD, set}
 use borrow.Author.Tests.{le-leb, lt-leb, eq-eqb, ne-eqb, eqb-false, leb-false, ltb-false}
 use lib.Dec.{eqb, leb, ltb}
-use Rattle.rules.specs.declared.Cell.{Cell}
-use Rattle.rules.specs.declared.Answer.{Answer}
-use Rattle.rules.specs.declared.Answer.the-variants.{Done, Wrote}
-use Rattle.rules.specs.declared.Verdict.{Verdict}
-use Rattle.rules.specs.Sizes.{Sizes, base, FREE, CELLS, WRITES}
+use Rattle.kinds.specs.declared.Cell.{Cell}
+use Rattle.kinds.specs.declared.Answer.{Answer}
+use Rattle.kinds.specs.declared.Answer.the-variants.{Done, Wrote}
+use Rattle.kinds.specs.declared.Verdict.{Verdict}
+use Rattle.kinds.specs.Sizes.{Sizes, FREE, WRITES}
 use Rattle.rules.specs.Numbers.{badRow, damaged}
-use Rattle.rules.specs.Versions.{at, withValue, newVersion, versionAt, linkAt, putVersion, putCell}
-use Rattle.rules.specs.Slots.{Write, write, addWrite}
+use Rattle.kinds.specs.Versions.{at, withValue, newVersion, versionAt, linkAt, putVersion, putCell}
+use Rattle.kinds.specs.Slots.{Write, write, addWrite}
 use Rattle.rules.specs.Memory.{Mem, mem, sizeR, sizeN, free, headAt, wordsAt, slotAt}
 use Rattle.rules.specs.Outcome.{Outcome, out, test, guard, refuse, slotTests, rowTest, isCell}
 use Rattle.rules.specs.Verdicts.{verdict, guard-fine, guard-refused, guard-append}

@@ -1,13 +1,13 @@
 -- Bytes put one after the other into a buffer.
-use Prim.Native.Nat.{ℕ, zero, suc, _+_, _*_, _<_, _≤_}
+use Prim.Native.Nat.{ℕ, suc, _+_, _*_, _<_, _≤_}
 use mathlib.Core.List.{List, [], _∷_, _++_, append-nil, append-assoc}
 use mathlib.Core.Path.{_≡_, refl, sym, ap, _∙_}
 use native.Mathlib.Nat.{add-zero}
 use native.Mathlib.Numerals.{add-one}
 use native.Mathlib.Omega.{arith}
 use lib.ListN.{length, getD, take, set, length-append}
-use lib.Seq.{sets, length-sets, take-suc, take-length, take-all}
-use Rattle.digits.specs.Numbers.{digits, most, Laid}
+use lib.Seq.{sets, length-sets, take-suc, take-all}
+use Rattle.digits.specs.Numbers.{Laid}
 use Rattle.digits.specs.Laws.{digits-fit}
 use Rattle.answers.specs.Answers.{field, fields, crlf, answer}
 

@@ -1,10 +1,10 @@
 -- A cell that is not there reads as the empty version: so a version is read of any pointer.
-use Prim.Native.Nat.{ℕ, zero, suc, _-_, _<_}
+use Prim.Native.Nat.{ℕ, _-_, _<_}
 use mathlib.Core.List.{List, [], _∷_}
-use mathlib.Core.Path.{_≡_, refl, ap, _∙_}
+use mathlib.Core.Path.{_≡_, ap}
 use native.Mathlib.Omega.{arith}
 use lib.ListN.{length, getD, List·getD-eq-default}
-use Rattle.rules.specs.Versions.{emptyVersion, versionOf, cellAt, versionAt, linkAt}
+use Rattle.kinds.specs.Versions.{emptyVersion, versionOf, cellAt, versionAt, linkAt}
 
 pub version-of-none : (cs : List (List ℕ)) (c : ℕ) → c ≡ 0 → versionAt cs c ≡ emptyVersion
 unfolding versionOf cellAt

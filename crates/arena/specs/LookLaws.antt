@@ -1,18 +1,16 @@
 -- The first visible version of a chain, pointer by pointer: what a walk knows at each of its ways out and at its step. The rules take
 -- the chain as a list first; a walk that stops early finds the same.
 use Prim.Native.Nat.{ℕ, zero, suc, _-_, _≤_, _<_}
-use mathlib.Core.Bool.{Bool, true, false}
-use mathlib.Core.List.{List, []}
-use mathlib.Core.Option.{Option, none, some}
-use mathlib.Core.Path.{_≡_, refl, sym, ap, _∙_}
+use mathlib.Core.Bool.{true, false}
+use mathlib.Core.Path.{_≡_, refl}
 use mathlib.Core.Logic.{_≢_}
 use native.Mathlib.Omega.{arith}
-use borrow.Author.Tests.{eq-eqb, ne-eqb, lt-ltb, le-ltb}
-use Rattle.rules.specs.declared.Version.{Version}
-use Rattle.rules.specs.Lists.{first}
-use Rattle.rules.specs.Slots.{Slot}
-use Rattle.rules.specs.Visible.{visible}
-use Rattle.rules.specs.Chain.{Look, found, nothing, tooLong, harmed, chain, look}
+use borrow.Author.Tests.{ne-eqb, lt-ltb, le-ltb}
+use Rattle.kinds.specs.declared.Version.{Version}
+use Rattle.kinds.specs.Lists.{first}
+use Rattle.kinds.specs.Slots.{Slot}
+use Rattle.kinds.specs.Visible.{visible}
+use Rattle.rules.specs.Chain.{found, nothing, tooLong, harmed, chain, look}
 
 module _ (n : ℕ) (t : Slot) (f : ℕ → Version) where
   pub look-end : (k c : ℕ) → c ≡ 0 → look n t f k c ≡ nothing

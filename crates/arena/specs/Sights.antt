@@ -1,5 +1,5 @@
 -- What the walk answers, for what the rules say that a reader finds.
-use Rattle.rules.specs.Versions.{at}
+use Rattle.kinds.specs.Versions.{at}
 use Rattle.rules.specs.Chain.{Look, found, nothing, tooLong, harmed}
 use Rattle.arena.specs.declared.Seen.{Seen}
 use Rattle.arena.specs.declared.Seen.the-variants.{At, Nothing, TooLong, Harmed}

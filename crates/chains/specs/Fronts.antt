@@ -3,14 +3,13 @@ use Prim.Native.Nat.{ℕ, zero, suc, _+_, _-_, _≤_, _<_}
 use native.Mathlib.Numerals.{add-one}
 use native.Mathlib.Omega.{arith}
 use mathlib.Core.List.{List, [], _∷_}
-use mathlib.Core.Logic.{_≢_}
 use mathlib.Core.Path.{_≡_, refl, sym, ap, _∙_}
 use lib.ListN.{length, getD, set, length-set}
-use lib.Seq.{sets, length-sets, getD-set-same, getD-set-other}
-use Rattle.rules.specs.Sizes.{Sizes, base, FREE}
-use Rattle.rules.specs.Lists.{fold}
-use Rattle.rules.specs.Versions.{emptyVersion, putCell}
-use Rattle.rules.specs.Memory.{Mem, mem}
+use lib.Seq.{sets, getD-set-same, getD-set-other}
+use Rattle.kinds.specs.Sizes.{base, FREE}
+use Rattle.kinds.specs.Lists.{fold}
+use Rattle.kinds.specs.Versions.{emptyVersion, putCell}
+use Rattle.rules.specs.Memory.{mem}
 use Rattle.rules.specs.Abort.{giveBack}
 use Rattle.rules.specs.Vacuum.{reportOf, reports}
 use Rattle.rules.specs.Theory.CellLaws.{HasCell, length-put}

@@ -3,21 +3,21 @@
 use Prim.Native.Nat.{ℕ, zero, suc, _-_, _≤_, _<_}
 use native.Mathlib.Nat.{le-of-suc-le-suc}
 use native.Mathlib.Omega.{arith}
-use mathlib.Core.Bool.{Bool, true, false, cond}
+use mathlib.Core.Bool.{Bool}
 use mathlib.Core.List.{List, [], _∷_}
 use mathlib.Core.Logic.{_≢_}
 use mathlib.Core.Path.{_≡_, refl, sym, ap, subst, _∙_}
 use lib.ListN.{length}
 use lib.Dec.{eqb, ltb}
 use borrow.Author.Tests.{eq-eqb, ne-eqb, lt-ltb, le-ltb, ltb-false, eqb-false}
-use Rattle.rules.specs.declared.Version.{Version}
-use Rattle.rules.specs.Versions.{versionAt}
-use Rattle.rules.specs.Chain.{After, ends, goesOn, broken, Chain, chained, chain}
+use Rattle.kinds.specs.declared.Version.{Version}
+use Rattle.kinds.specs.Versions.{versionAt}
+use Rattle.rules.specs.Chain.{ends, goesOn, broken, Chain, chained, chain}
 use Rattle.rules.specs.Theory.Cases.{byBool, byEq}
-use Rattle.rules.specs.Lists.{keep}
+use Rattle.kinds.specs.Lists.{keep}
 use Rattle.rules.specs.Theory.CellLaws.{HasCell}
 use Rattle.rules.specs.Theory.Bridge.{AllCells}
-use Rattle.rules.specs.Theory.Counting.{cnt, cnt-head, cnt-other}
+use Rattle.rules.specs.Theory.Counting.{cnt, cnt-other}
 use Rattle.rules.specs.Theory.Inv.{Spelled}
 use Rattle.rules.specs.Theory.Chains.{spelled-same}
 

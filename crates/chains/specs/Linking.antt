@@ -1,17 +1,18 @@
 -- Where the loop that links a row anew stands: what stays of the rest of the chain, linked behind the version that stayed last, gives
 -- what the whole gives. The cells ahead are as they were, since no cell is passed twice: so the walk goes on as if nothing had changed.
-use Prim.Native.Nat.{ℕ, zero, suc, _≤_, _<_}
+use Prim.Native.Nat.{ℕ, _<_}
 use native.Mathlib.Omega.{arith}
-use mathlib.Core.Bool.{Bool, true, false, not, cond}
+use mathlib.Core.Bool.{true, false, cond}
 use mathlib.Core.List.{List, [], _∷_}
 use mathlib.Core.Logic.{_≢_}
-use mathlib.Core.Path.{_≡_, refl, sym, ap, _∙_}
+use mathlib.Core.Path.{_≡_, refl, ap, _∙_}
 use lib.ListN.{length}
-use Rattle.rules.specs.declared.Cell.{Cell}
-use Rattle.rules.specs.declared.Version.{Version}
-use Rattle.rules.specs.Lists.{keep}
-use Rattle.rules.specs.Versions.{withNext, versionAt, linkAt, putVersion}
-use Rattle.rules.specs.Vacuum.{reclaimable, relink}
+use Rattle.kinds.specs.declared.Cell.{Cell}
+use Rattle.kinds.specs.declared.Version.{Version}
+use Rattle.kinds.specs.Lists.{keep}
+use Rattle.kinds.specs.Versions.{withNext, versionAt, linkAt, putVersion}
+use Rattle.rules.specs.Vacuum.{relink}
+use Rattle.kinds.specs.Versions.{reclaimable}
 use Rattle.rules.specs.Theory.Cases.{byBool}
 use Rattle.rules.specs.Theory.CellLaws.{HasCell, length-put, put-off}
 use Rattle.rules.specs.Theory.Counting.{cnt, cnt-head, cnt-tail}

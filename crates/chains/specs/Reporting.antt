@@ -1,18 +1,19 @@
 -- Where the loop of reports stands: what is left of the chain, reported from place i on, gives what the whole chain gives from 0 on.
-use Prim.Native.Nat.{ℕ, zero, suc, _+_, _≤_, _<_}
+use Prim.Native.Nat.{ℕ, _+_, _≤_, _<_}
 use native.Mathlib.Numerals.{add-one}
 use native.Mathlib.Omega.{arith}
-use mathlib.Core.Bool.{Bool, true, false, cond}
+use mathlib.Core.Bool.{true, false, cond}
 use mathlib.Core.List.{List, [], _∷_}
 use mathlib.Core.Logic.{_≢_}
-use mathlib.Core.Path.{_≡_, refl, sym, ap, _∙_}
+use mathlib.Core.Path.{_≡_, refl, _∙_}
 use mir.Val.{boolByte}
 use lib.ListN.{length, set, length-set}
 use lib.Seq.{sets}
-use Rattle.rules.specs.declared.Version.{Version}
-use Rattle.rules.specs.Lists.{keep}
-use Rattle.rules.specs.Versions.{versionAt}
-use Rattle.rules.specs.Vacuum.{reclaimable, reportOf, reports}
+use Rattle.kinds.specs.declared.Version.{Version}
+use Rattle.kinds.specs.Lists.{keep}
+use Rattle.kinds.specs.Versions.{versionAt}
+use Rattle.rules.specs.Vacuum.{reportOf, reports}
+use Rattle.kinds.specs.Versions.{reclaimable}
 use Rattle.rules.specs.Theory.Cases.{byBool}
 use Rattle.chains.specs.Lines.{Ends, line, line-end, line-next, ends-next}
 use Rattle.chains.specs.Tallies.{dead}

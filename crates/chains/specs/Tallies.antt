@@ -1,18 +1,18 @@
 -- The judge of a chain: harmed, or how many of its versions are reclaimable. A count so far, and what is left of the chain, give what
 -- the whole chain gives.
-use Prim.Native.Nat.{ℕ, zero, suc, _+_, _-_, _≤_, _<_}
+use Prim.Native.Nat.{ℕ, _+_, _-_, _≤_, _<_}
 use native.Mathlib.Omega.{arith}
 use mathlib.Core.Bool.{Bool, true, false, not}
-use mathlib.Core.List.{List, [], _∷_}
+use mathlib.Core.List.{List, _∷_}
 use mathlib.Core.Logic.{_≢_}
-use mathlib.Core.Path.{_≡_, refl, sym, ap, _∙_}
+use mathlib.Core.Path.{_≡_, refl, sym, ap}
 use mir.Val.{boolByte}
 use lib.ListN.{length}
-use Rattle.rules.specs.declared.Version.{Version}
-use Rattle.rules.specs.Lists.{keep}
-use Rattle.rules.specs.Versions.{versionAt}
-use Rattle.rules.specs.Chain.{After, ends, goesOn, broken, Chain, chained, chain}
-use Rattle.rules.specs.Vacuum.{reclaimable}
+use Rattle.kinds.specs.declared.Version.{Version}
+use Rattle.kinds.specs.Lists.{keep}
+use Rattle.kinds.specs.Versions.{versionAt}
+use Rattle.rules.specs.Chain.{After, ends, goesOn, broken, Chain, chain}
+use Rattle.kinds.specs.Versions.{reclaimable}
 use Rattle.rules.specs.Theory.Cases.{byBool}
 use Rattle.chains.specs.declared.Tally.{Tally}
 use Rattle.chains.specs.declared.Tally.the-variants.{Harmed, Sound}

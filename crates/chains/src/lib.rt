@@ -1,8 +1,8 @@
 // The loops of a row's vacuum: the chain behind the head is judged, its reclaimable versions are reported, what stays is linked anew,
 // and the reported cells are given back. The judge looks at any memory; the others ask for what its verdict has shown.
-use rules::CELL_WORDS;
-use rules::Cell;
-use rules::Version;
+use kinds::CELL_WORDS;
+use kinds::Cell;
+use kinds::Version;
 ghost use mathlib.Core.Bool.{Bool, true, not, cond};
 ghost use mathlib.Core.List.{List, [], _∷_};
 ghost use mathlib.Core.Path.{_≡_};
@@ -10,13 +10,13 @@ ghost use mir.Val.{boolByte};
 ghost use Prim.Native.Nat.{ℕ, _+_, _≤_, _<_};
 ghost use lib.ListN.{length, set};
 ghost use lib.Seq.{sets};
-ghost use Rattle.rules.specs.Sizes.{base, metaWords};
-ghost use Rattle.rules.specs.Lists.{keep, fold};
-ghost use Rattle.rules.specs.Versions.{withNext, versionAt, putVersion};
+ghost use Rattle.kinds.specs.Sizes.{base, metaWords};
+ghost use Rattle.kinds.specs.Lists.{keep, fold};
+ghost use Rattle.kinds.specs.Versions.{withNext, versionAt, putVersion};
 ghost use Rattle.rules.specs.Memory.{mem};
 ghost use Rattle.rules.specs.Chain.{chain};
 ghost use Rattle.rules.specs.Abort.{giveBack};
-ghost use Rattle.rules.specs.Vacuum.{reclaimable};
+ghost use Rattle.kinds.specs.Versions.{reclaimable};
 ghost use Rattle.rules.specs.Vacuum as rule;
 ghost use Rattle.rules.specs.Theory.CellLaws.{HasCell};
 ghost use Rattle.rules.specs.Theory.Bridge.{AllCells};

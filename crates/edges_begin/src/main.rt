@@ -1,17 +1,17 @@
 // Begin at each boundary of paper 01 and one past it, on hand-made memory: a line for each, compared with the file stdout, which was
 // worked out from the paper.
-use rules::ACTIVE;
-use rules::CELL_WORDS;
-use rules::CLOCK;
-use rules::ID;
-use rules::LAST_ID;
-use rules::LOW;
-use rules::META_WORDS;
-use rules::READS;
-use rules::SLOTS;
-use rules::TOP;
-use rules::WIDTH;
-use rules::WRITES;
+use kinds::ACTIVE;
+use kinds::CELL_WORDS;
+use kinds::CLOCK;
+use kinds::ID;
+use kinds::LAST_ID;
+use kinds::LOW;
+use kinds::META_WORDS;
+use kinds::READS;
+use kinds::SLOTS;
+use kinds::TOP;
+use kinds::WIDTH;
+use kinds::WRITES;
 
 // One begin: its answer, and whether header and slots are as expected. Rows and cells are lent for reading only.
 fn start_at(

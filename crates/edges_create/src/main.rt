@@ -1,9 +1,9 @@
 // Creation at each boundary of paper 01 and one past it, over rubbish: a line for each, compared with the file stdout, which was
 // worked out from the paper.
-use rules::CELL_WORDS;
-use rules::LAST_ID;
-use rules::SLOTS;
-use rules::WIDTH;
+use kinds::CELL_WORDS;
+use kinds::LAST_ID;
+use kinds::SLOTS;
+use kinds::WIDTH;
 
 // Every word that is lent is 7, here and in the tests below. A slot of id 7 is taken: the store under the new one has every slot in
 // use.

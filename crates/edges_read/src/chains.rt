@@ -1,10 +1,10 @@
 // Chains of unseen versions: 64 are looked at, and 10 is tested before each pointer is followed.
 use super::looked::CELLS_LENT;
 use super::looked::look;
-use rules::CELL_WORDS;
-use rules::READS;
-use rules::SLOTS;
-use rules::WIDTH;
+use kinds::CELL_WORDS;
+use kinds::READS;
+use kinds::SLOTS;
+use kinds::WIDTH;
 
 // Row 1's chain goes through cells 1 to 70 in order, but for one of them, which is by id xmin and has another next.
 fn unrecorded(name: &[u8], c: usize, xmin: u64, next: u64) {

@@ -1,9 +1,9 @@
 // One read: its answer, and whether the slots are as expected. The other three arenas are lent for reading only.
-use rules::CELL_WORDS;
-use rules::META_WORDS;
-use rules::SLOTS;
-use rules::TxId;
-use rules::WIDTH;
+use kinds::CELL_WORDS;
+use kinds::META_WORDS;
+use kinds::SLOTS;
+use kinds::TxId;
+use kinds::WIDTH;
 
 pub fn look_at(
     meta: &[u64],

@@ -2,14 +2,14 @@
 use super::looked::CELLS_LENT;
 use super::looked::look;
 use super::looked::look_at;
-use rules::ACTIVE;
-use rules::CELL_WORDS;
-use rules::ID;
-use rules::LAST_ID;
-use rules::READS;
-use rules::SLOTS;
-use rules::WIDTH;
-use rules::WRITES;
+use kinds::ACTIVE;
+use kinds::CELL_WORDS;
+use kinds::ID;
+use kinds::LAST_ID;
+use kinds::READS;
+use kinds::SLOTS;
+use kinds::WIDTH;
+use kinds::WRITES;
 
 // 17 slots are lent, and the last is no slot of the store. The reader is in slot 15.
 fn refused(name: &[u8], slot: u64, id: u64, row: u64) {

@@ -1,10 +1,10 @@
 // Own writes: answered before the chain is looked at, and never recorded.
 use super::looked::CELLS_LENT;
 use super::looked::look;
-use rules::CELL_WORDS;
-use rules::SLOTS;
-use rules::WIDTH;
-use rules::WRITES;
+use kinds::CELL_WORDS;
+use kinds::SLOTS;
+use kinds::WIDTH;
+use kinds::WRITES;
 
 // Row 0 was written last in cell 3, row 1 deleted in cell 4. The third entry of row 0 lies past the count: it is none.
 fn values() {

@@ -1,11 +1,11 @@
 // The read set: 128 records fit, and a cell is recorded once.
 use super::looked::CELLS_LENT;
 use super::looked::look;
-use rules::CELL_WORDS;
-use rules::READS;
-use rules::SLOTS;
-use rules::WIDTH;
-use rules::WRITES;
+use kinds::CELL_WORDS;
+use kinds::READS;
+use kinds::SLOTS;
+use kinds::WIDTH;
+use kinds::WRITES;
 
 // Slot 0 has room for one record more; slot 1 has none, and cell 2 is its last. Row 3 is slot 1's own.
 fn full() {

@@ -1,10 +1,10 @@
 // Saved sizes, clock and lent lengths: tested before anything else.
 use super::looked::look_at;
-use rules::CELL_WORDS;
-use rules::CELLS;
-use rules::READS;
-use rules::SLOTS;
-use rules::WIDTH;
+use kinds::CELL_WORDS;
+use kinds::CELLS;
+use kinds::READS;
+use kinds::SLOTS;
+use kinds::WIDTH;
 
 // The reader is in slot 0; 257 rows and 2 cells are lent.
 fn saved(name: &[u8], r: u64, n: u64, clock: u64, slot: u64) {

@@ -1,10 +1,10 @@
 // The version found: none, without a key, with a key; its lock and the links after it do not matter.
 use super::looked::CELLS_LENT;
 use super::looked::look;
-use rules::CELL_WORDS;
-use rules::READS;
-use rules::SLOTS;
-use rules::WIDTH;
+use kinds::CELL_WORDS;
+use kinds::READS;
+use kinds::SLOTS;
+use kinds::WIDTH;
 
 fn heads() {
     let meta = [3, 5, 9, 0];

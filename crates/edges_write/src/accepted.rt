@@ -2,13 +2,13 @@
 use super::wrote::LENT;
 use super::wrote::put;
 use super::wrote::put_at;
-use rules::CELL_WORDS;
-use rules::FREE;
-use rules::LAST_ID;
-use rules::SLOTS;
-use rules::Value;
-use rules::WIDTH;
-use rules::WRITES;
+use kinds::CELL_WORDS;
+use kinds::FREE;
+use kinds::LAST_ID;
+use kinds::SLOTS;
+use kinds::Value;
+use kinds::WIDTH;
+use kinds::WRITES;
 
 // Cell 2 is free and full of rubbish; cell 3 is after it. The longer header, cells and slots keep their rest.
 fn no_base() {

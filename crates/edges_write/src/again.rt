@@ -1,11 +1,11 @@
 // The row has an own entry: its value is replaced and its cell answered. Neither the head nor room matters, only the entry's cell.
 use super::wrote::LENT;
 use super::wrote::put;
-use rules::CELL_WORDS;
-use rules::SLOTS;
-use rules::Value;
-use rules::WIDTH;
-use rules::WRITES;
+use kinds::CELL_WORDS;
+use kinds::SLOTS;
+use kinds::Value;
+use kinds::WIDTH;
+use kinds::WRITES;
 
 // The heads are locked by 9, unseen, and above N. Row 0 has two entries; row 2's cell is N and has flags 7. The write set is full
 // and no cell is free.

@@ -1,11 +1,11 @@
 // The row's head, where the row has no own entry: 15 above N, then 7, then 8, all before 12 and 11. Nothing is changed.
 use super::wrote::LENT;
 use super::wrote::put;
-use rules::CELL_WORDS;
-use rules::SLOTS;
-use rules::Value;
-use rules::WIDTH;
-use rules::WRITES;
+use kinds::CELL_WORDS;
+use kinds::SLOTS;
+use kinds::Value;
+use kinds::WIDTH;
+use kinds::WRITES;
 
 // Row i has cell i as its head, but for row 0. In slot 0 there is room; slot 1 is full.
 fn refused(name: &[u8], slot: u64, free: u64, row: u64) {

@@ -1,14 +1,14 @@
 // Sizes and clock, slot, owner, counts, row: tested in this order, and nothing is changed.
 use super::wrote::put_at;
-use rules::ACTIVE;
-use rules::CELL_WORDS;
-use rules::ID;
-use rules::LAST_ID;
-use rules::READS;
-use rules::SLOTS;
-use rules::Value;
-use rules::WIDTH;
-use rules::WRITES;
+use kinds::ACTIVE;
+use kinds::CELL_WORDS;
+use kinds::ID;
+use kinds::LAST_ID;
+use kinds::READS;
+use kinds::SLOTS;
+use kinds::Value;
+use kinds::WIDTH;
+use kinds::WRITES;
 
 // The writer is in slot 0; 257 rows and 2 cells are lent.
 fn saved(name: &[u8], r: u64, n: u64, clock: u64) {

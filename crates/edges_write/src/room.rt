@@ -1,12 +1,12 @@
 // Room for an entry and a free cell: 12 before 11, and 15 where the first free cell is above N.
 use super::wrote::LENT;
 use super::wrote::put;
-use rules::CELL_WORDS;
-use rules::FREE;
-use rules::SLOTS;
-use rules::Value;
-use rules::WIDTH;
-use rules::WRITES;
+use kinds::CELL_WORDS;
+use kinds::FREE;
+use kinds::SLOTS;
+use kinds::Value;
+use kinds::WIDTH;
+use kinds::WRITES;
 
 // Slot 0 has 31 writes, slot 1 has 32. Row 0 has no version.
 fn entries() {

@@ -1,15 +1,15 @@
 // The four calls one after the other, on a store of two cells and two rows: cells are handed out 1, 2 and then no more.
-use rules::ACTIVE;
-use rules::CELL_WORDS;
-use rules::ID;
-use rules::LOW;
-use rules::META_WORDS;
-use rules::SLOTS;
-use rules::TOP;
-use rules::TxId;
-use rules::Value;
-use rules::WIDTH;
-use rules::WRITES;
+use kinds::ACTIVE;
+use kinds::CELL_WORDS;
+use kinds::ID;
+use kinds::LOW;
+use kinds::META_WORDS;
+use kinds::SLOTS;
+use kinds::TOP;
+use kinds::TxId;
+use kinds::Value;
+use kinds::WIDTH;
+use kinds::WRITES;
 
 fn create(
     m: &mut [u64; META_WORDS],

@@ -1,11 +1,11 @@
 // One write by id 6: its answer, and whether header, cells and slots are as expected. The rows are lent for reading only. The tests
 // call the four arenas m, r, c and s, and what is expected of them wm, wc and ws.
-use rules::CELL_WORDS;
-use rules::META_WORDS;
-use rules::SLOTS;
-use rules::TxId;
-use rules::Value;
-use rules::WIDTH;
+use kinds::CELL_WORDS;
+use kinds::META_WORDS;
+use kinds::SLOTS;
+use kinds::TxId;
+use kinds::Value;
+use kinds::WIDTH;
 
 pub fn put_at(
     meta: &mut [u64],

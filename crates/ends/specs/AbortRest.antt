@@ -1,14 +1,14 @@
 -- What is left of an abort once the slot is tested, and its ways out.
 use Prim.Native.Nat.{ℕ}
-use mathlib.Core.List.{List, [], _++_}
+use mathlib.Core.List.{List, []}
 use mathlib.Core.Path.{_≡_, sym, ap, _∙_}
 use lib.ListN.{set}
-use Rattle.rules.specs.declared.Answer.{Answer}
-use Rattle.rules.specs.declared.Answer.the-variants.{Done}
-use Rattle.rules.specs.declared.Verdict.{Verdict}
-use Rattle.rules.specs.Sizes.{Sizes}
-use Rattle.rules.specs.Lists.{fold}
-use Rattle.rules.specs.Slots.{emptied}
+use Rattle.kinds.specs.declared.Answer.{Answer}
+use Rattle.kinds.specs.declared.Answer.the-variants.{Done}
+use Rattle.kinds.specs.declared.Verdict.{Verdict}
+use Rattle.kinds.specs.Sizes.{Sizes}
+use Rattle.kinds.specs.Lists.{fold}
+use Rattle.kinds.specs.Slots.{emptied}
 use Rattle.rules.specs.Memory.{Mem, mem, slotAt, withSlot, withCells}
 use Rattle.rules.specs.Outcome.{Outcome, out, guard, each, refuse, slotTests}
 use Rattle.rules.specs.Verdicts.{verdict, guard-append, guard-fine, guard-refused}

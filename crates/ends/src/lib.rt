@@ -1,18 +1,29 @@
 // The two ends of a transaction whose slot was tested: commit and abort. Every test comes before the first store.
-use rules::Answer;
-use rules::CELL_WORDS;
-use rules::TxId;
-use rules::Verdict;
-use rules::WIDTH;
+use kinds::Answer;
+use kinds::CELL_WORDS;
+use kinds::TxId;
+use kinds::Verdict;
+use kinds::WIDTH;
 ghost use mathlib.Core.List.{[]};
 ghost use mathlib.Core.Path.{_≡_};
-ghost use Rattle.rules.specs.Sizes.{base};
+ghost use Prim.Native.Nat.{_<_};
+ghost use lib.ListN.{length, set};
+ghost use Rattle.kinds.specs.Sizes.{base};
+ghost use Rattle.kinds.specs.Slots.{emptied};
 ghost use Rattle.rules.specs.Memory.{mem};
 ghost use Rattle.rules.specs.Outcome.{out};
 ghost use Rattle.rules.specs.Lent.{memIn, memOut};
 ghost use Rattle.gate.specs.FineLaws.{SlotFine};
 ghost use Rattle.ends.specs.CommitRest.{commitRest};
 ghost use Rattle.ends.specs.AbortRest.{abortRest};
+
+// "The slot is emptied: every field 0."
+fn empty(slots: &mut [[u64; WIDTH]], s: usize)
+    requires { ⌜ s < length (now slots) ⌝ }
+    ensures { λ _. ⌜ now (slots .exit) ≡ set (now (slots .entry)) s (emptied base) ⌝ }
+{
+    slots[s] = [0; WIDTH];
+}
 
 // The writes are published together, or nothing is changed and the transaction stays open.
 pub fn commit(
@@ -31,7 +42,7 @@ pub fn commit(
         Verdict::Refused { number, value } => Answer::Refused { number, value },
         Verdict::Fine => {
             publish::publish_all(rows, cells, &slots[s], id);
-            slots[s] = [0; WIDTH];
+            empty(slots, s);
             Answer::Done
         }
     }
@@ -55,7 +66,7 @@ pub fn abort(
         Verdict::Fine => {
             undo::unlock_all(cells, &slots[s], id);
             undo::give_all(meta, cells, &slots[s]);
-            slots[s] = [0; WIDTH];
+            empty(slots, s);
             Answer::Done
         }
     }

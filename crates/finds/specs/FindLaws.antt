@@ -1,23 +1,22 @@
 -- The sweep over words is the rules' find: the copy of the slot holds the records found so far after its own, and the front of the list
 -- the rows listed.
-use Prim.Native.Nat.{ℕ, zero, suc, _+_, _<_, _≤_}
-use mathlib.Core.Bool.{Bool, true, false, cond}
+use Prim.Native.Nat.{ℕ, suc, _+_, _≤_}
 use mathlib.Core.List.{List, [], _∷_, _++_}
 use mathlib.Core.Option.{Option, none, some}
 use mathlib.Core.Path.{_≡_, refl, sym, ap, subst, _∙_}
 use native.Mathlib.Omega.{arith}
 use native.Mathlib.Numerals.{add-one}
-use lib.ListN.{length, getD, set, take, length-append, length-set}
-use lib.Seq.{take-suc-set, length-take-le}
+use lib.ListN.{length, getD, take, length-append, length-set}
+use lib.Seq.{take-suc-set}
 use lib.Dec.{leb}
 use borrow.Author.Tests.{leb-false}
-use Rattle.rules.specs.declared.Version.{Version}
-use Rattle.rules.specs.Sizes.{Sizes, base, READS}
-use Rattle.rules.specs.Lists.{fold, keep, from, first}
-use Rattle.rules.specs.Versions.{versionAt}
-use Rattle.rules.specs.Slots.{Write, Rec, rec, Slot, slotOf, addRec, addRecs}
+use Rattle.kinds.specs.declared.Version.{Version}
+use Rattle.kinds.specs.Sizes.{base, READS}
+use Rattle.kinds.specs.Lists.{fold}
+use Rattle.kinds.specs.Versions.{versionAt}
+use Rattle.kinds.specs.Slots.{Write, Rec, rec, Slot, slotOf, addRec, addRecs}
 use Rattle.rules.specs.Memory.{Mem, sizeN, headAt}
-use Rattle.rules.specs.Visible.{visible, creatorVisible}
+use Rattle.kinds.specs.Visible.{visible, creatorVisible}
 use Rattle.rules.specs.Chain.{look}
 use Rattle.rules.specs.Read.{answerAt, Sight, blocked, sees, own, recorded, sightOf, ownSight, readRow, readAt}
 use Rattle.rules.specs.Lookup.{Found, stopped, got, isKey, listRow, findRow, find}
@@ -27,7 +26,7 @@ use Rattle.reads.specs.declared.Found as F
 use Rattle.reads.specs.Found.{foundOf}
 use Rattle.reads.specs.Sights.{recordOf, sightFound, read-row-is}
 use Rattle.finds.specs.declared.Listing.{Listing}
-use Rattle.finds.specs.Sweep.{Note, note, Sweep, sweep, listAt, seenRow, stepRow, goOn, afterRow, sweepRows}
+use Rattle.finds.specs.Sweep.{note, Sweep, sweep, listAt, seenRow, stepRow, goOn, afterRow, sweepRows}
 
 fold-append : {A S : Type 0} (f : A → S → S) (l k : List A) (s : S) → fold f (l ++ k) s ≡ fold f k (fold f l s)
 unfolding fold

@@ -1,25 +1,24 @@
 -- The rows that a lookup reads, as marks: what marking and testing a list of rows comes to, member by member.
 use Prim.Native.Nat.{ℕ, zero, suc, _+_, _-_, _<_, _≤_}
 use mathlib.Core.Bool.{Bool, true, false, _||_, cond}
-use mathlib.Core.List.{List, [], _∷_, _++_}
-use mathlib.Core.Path.{_≡_, refl, sym, ap, _∙_}
+use mathlib.Core.List.{List, [], _∷_}
+use mathlib.Core.Path.{_≡_, refl, ap, _∙_}
 use native.Mathlib.Omega.{arith}
 use native.Mathlib.Numerals.{add-one}
 use lib.ListN.{length, getD, set, drop, length-set}
 use lib.Seq.{drop-cons, getD-set-same, getD-set-other}
 use lib.Dec.{eqb, leb}
-use borrow.Author.Tests.{eq-eqb, ne-eqb, le-leb, lt-leb}
-use Rattle.rules.specs.declared.Verdict.{Verdict}
-use Rattle.rules.specs.declared.Verdict.the-variants.{Fine, Refused}
-use Rattle.rules.specs.Sizes.{base}
+use borrow.Author.Tests.{eq-eqb, ne-eqb, lt-leb}
+use Rattle.kinds.specs.declared.Verdict.the-variants.{Fine, Refused}
+use Rattle.kinds.specs.Sizes.{base}
 use Rattle.rules.specs.Numbers.{badRow, damaged}
-use Rattle.rules.specs.Lists.{has, fold, nonzero}
-use Rattle.rules.specs.Slots.{write, threes}
+use Rattle.kinds.specs.Lists.{has, fold, nonzero}
+use Rattle.kinds.specs.Slots.{write, threes}
 use Rattle.rules.specs.Outcome.{Test, test, each}
-use Rattle.rules.specs.Verdicts.{verdict, andThen, verdict-none, verdict-each, verdict-fails, verdict-passes}
+use Rattle.rules.specs.Verdicts.{verdict, verdict-none, verdict-each}
 use Rattle.rules.specs.Lookup.{ownRows}
 use Rattle.rules.specs.Theory.Cases.{byBool, byEq}
-use Rattle.rules.specs.WordLaws.{threes-step, threes-done}
+use Rattle.kinds.specs.WordLaws.{threes-step, threes-done}
 
 -- rows that no store has are passed over
 unfoldable pub marked : ℕ → List ℕ → List ℕ

@@ -1,17 +1,17 @@
 -- The rows read one by one, over the words that the code works on: a copy of the slot, and the rows listed so far.
 use Prim.Native.Nat.{ℕ, suc, _+_, _-_, _<_, _≤_}
-use mathlib.Core.Bool.{Bool, true, false, cond}
-use mathlib.Core.List.{List, [], _∷_, _++_}
+use mathlib.Core.Bool.{cond}
+use mathlib.Core.List.{List, [], _∷_}
 use mathlib.Core.Path.{_≡_, refl, sym, ap, _∙_}
 use native.Mathlib.Omega.{arith}
 use native.Mathlib.Numerals.{add-one}
-use lib.ListN.{length, getD, set}
+use lib.ListN.{getD, set}
 use lib.Dec.{leb}
-use Rattle.rules.specs.declared.Version.{Version}
-use Rattle.rules.specs.Sizes.{base}
+use Rattle.kinds.specs.declared.Version.{Version}
+use Rattle.kinds.specs.Sizes.{base}
 use Rattle.rules.specs.Numbers.{resultFull}
-use Rattle.rules.specs.Lists.{keep, fold, from, nonzero}
-use Rattle.rules.specs.Slots.{Rec, slotOf, addRec, addRecs}
+use Rattle.kinds.specs.Lists.{keep, fold, from, nonzero}
+use Rattle.kinds.specs.Slots.{Rec, slotOf, addRec, addRecs}
 use Rattle.rules.specs.Read.{answerAt, Sight, blocked, sees, readRow}
 use Rattle.rules.specs.Lookup.{isKey}
 use Rattle.rules.specs.Theory.Cases.{byBool}

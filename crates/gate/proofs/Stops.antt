@@ -3,10 +3,10 @@ use mathlib.Core.List.{[], _∷_}
 use mathlib.Core.Path.{_≡_, refl}
 use types.Run.{OneOf, miss}
 use denote.Enum.Declared.{tagOf}
-use Rattle.rules.specs.declared.Verdict.{Verdict}
-use Rattle.rules.specs.declared.Verdict.the-variants.{Fine, Refused}
+use Rattle.kinds.specs.declared.Verdict.{Verdict}
+use Rattle.kinds.specs.declared.Verdict.the-variants.{Fine, Refused}
 use Rattle.rules.specs.Verdicts.{andThen}
-use Rattle.rules.proofs.Verdict.{the-type}
+use Rattle.kinds.proofs.Verdict.{the-type}
 
 pub stops : (a b : Verdict) → OneOf (1 ∷ []) (tagOf the-type a) → andThen a b ≡ a
 stops Fine b h = absurd (miss (1 ∷ []) 0 tt h)

@@ -1,62 +1,31 @@
-// What every call tests first: sizes and clock, then slot, owner and counts. And the names of the refusals.
-use rules::ACTIVE;
-use rules::CELL_WORDS;
-use rules::CELLS;
-use rules::CLOCK;
-use rules::ID;
-use rules::META_WORDS;
-use rules::MOST_CELLS;
-use rules::MOST_READS;
-use rules::MOST_ROWS;
-use rules::MOST_WRITES;
-use rules::READS;
-use rules::ROWS;
-use rules::SLOTS;
-use rules::TxId;
-use rules::Verdict;
-use rules::WIDTH;
-use rules::WRITES;
+// What every call tests first: sizes and clock, then slot, owner and counts.
+use kinds::ACTIVE;
+use kinds::BAD_SLOT;
+use kinds::CELL_WORDS;
+use kinds::CELLS;
+use kinds::CLOCK;
+use kinds::DAMAGED;
+use kinds::ID;
+use kinds::META_WORDS;
+use kinds::MOST_CELLS;
+use kinds::MOST_READS;
+use kinds::MOST_ROWS;
+use kinds::MOST_WRITES;
+use kinds::NOT_OWNER;
+use kinds::READS;
+use kinds::ROWS;
+use kinds::SLOTS;
+use kinds::TxId;
+use kinds::Verdict;
+use kinds::WIDTH;
+use kinds::WRITES;
 ghost use mathlib.Core.Path.{_≡_};
-ghost use Rattle.rules.specs.Sizes.{base};
+ghost use Rattle.kinds.specs.Sizes.{base};
 ghost use Rattle.rules.specs.Outcome as spec;
 ghost use Rattle.rules.specs.Outcome.{storeTests, slotTests};
 ghost use Rattle.rules.specs.Verdicts.{verdict};
 ghost use Rattle.rules.specs.Lent.{memIn};
 ghost use Rattle.gate.specs.FineLaws.{broken, anothers, overfull, ownerTests};
-
-// ---- paper 01's numbers for "no", as the rules name them
-
-pub const BAD_SIZE: u64 = 1;
-
-pub const CLOCK_SPENT: u64 = 2;
-
-pub const NO_FREE_SLOT: u64 = 3;
-
-pub const BAD_SLOT: u64 = 4;
-
-pub const NOT_OWNER: u64 = 5;
-
-pub const BAD_ROW: u64 = 6;
-
-pub const ROW_LOCKED: u64 = 7;
-
-pub const WRITE_CONFLICT: u64 = 8;
-
-pub const READ_CONFLICT: u64 = 9;
-
-pub const CHAIN_TOO_LONG: u64 = 10;
-
-pub const NO_ROOM: u64 = 11;
-
-pub const WRITE_SET_FULL: u64 = 12;
-
-pub const READ_SET_FULL: u64 = 13;
-
-pub const RESULT_FULL: u64 = 14;
-
-pub const DAMAGED: u64 = 15;
-
-// ---- the tests
 
 // R and N are in range, and the lent lengths are long enough for them.
 pub fn fits(

@@ -1,16 +1,16 @@
 -- A record read as a call: the word first, then its fields.
 use Prim.Native.Nat.{ℕ}
-use mathlib.Core.List.{List, [], _∷_}
-use mathlib.Core.Path.{_≡_, refl, sym, ap, _∙_}
+use mathlib.Core.List.{List}
+use mathlib.Core.Path.{_≡_, sym, ap, _∙_}
 use mathlib.Core.Logic.{_≢_}
 use native.Mathlib.Nat.{sub-zero}
 use native.Mathlib.Omega.{arith}
-use lib.ListN.{length, take, drop}
+use lib.ListN.{length, take}
 use Rattle.lines.specs.declared.Line.{Line}
 use Rattle.lines.specs.declared.Word.{Word}
 use Rattle.lines.specs.declared.Pair.{Pair}
 use Rattle.lines.specs.declared.Triple.{Triple}
-use Rattle.lines.specs.Lines.{split, wordOf, done, two, three, threeThen, keyed, call, lineOf, meaning}
+use Rattle.lines.specs.Lines.{wordOf, call, lineOf, meaning}
 use Rattle.lines.specs.Fields.{rest, Cut, Paired, Ended, pairOf, threeOf, writeAt, done-end, done-more}
 
 -- d is the word that the code found, which ends at e

@@ -1,10 +1,10 @@
 -- What a record means: its fields stand between commas, the first is the word of a call, the others are its numbers.
-use Prim.Native.Nat.{ℕ, _<_, _^_}
+use Prim.Native.Nat.{ℕ}
 use mathlib.Core.Bool.{Bool, true, false, _&&_, cond}
-use mathlib.Core.List.{List, [], _∷_, _++_}
+use mathlib.Core.List.{List, [], _∷_}
 use mathlib.Core.Option.{Option, none, some}
 use lib.Dec.{eqb}
-use Rattle.digits.specs.Numbers.{numberOf, digits}
+use Rattle.digits.specs.Numbers.{numberOf}
 use Rattle.lines.specs.declared.Line.{Line}
 use Rattle.lines.specs.declared.Word.{Word}
 

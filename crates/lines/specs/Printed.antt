@@ -2,16 +2,14 @@
 use Prim.Native.Nat.{ℕ, _^_, _<_}
 use mathlib.Core.Bool.{Bool, true, false, not, _&&_}
 use mathlib.Core.List.{List, [], _∷_, _++_, append-nil}
-use mathlib.Core.Option.{Option, none, some}
 use mathlib.Core.Path.{_≡_, refl, sym, ap, _∙_}
 use native.Mathlib.Omega.{arith}
 use lib.Dec.{eqb, leb}
 use borrow.Author.Tests.{ne-eqb, leb-true}
-use Rattle.digits.specs.Numbers.{isDigit, allDigits, leads, numberOf, digits, most}
+use Rattle.digits.specs.Numbers.{isDigit, allDigits, leads, digits, most}
 use Rattle.digits.specs.Laws.{spell-digits, digits-lead, round-trip}
 use Rattle.lines.specs.declared.Line.{Line}
-use Rattle.lines.specs.declared.Word.{Word}
-use Rattle.lines.specs.Lines.{onto, joined, split, same, wordOf, wStore, wBegin, wRead, wWrite, wCommit, wAbort, wVacuum, wFind, number, onNumber, done, keyed, call, lineOf, meaning}
+use Rattle.lines.specs.Lines.{split, same, wordOf, wStore, wBegin, wRead, wWrite, wCommit, wAbort, wVacuum, wFind, number, done, keyed, call, lineOf, meaning}
 use Rattle.lines.specs.Fields.{after}
 
 -- a comma and a number

@@ -1,11 +1,10 @@
 -- The two calls from the search that they share: which rows its marks stand for, and which test comes last.
-use Prim.Native.Nat.{ℕ, _≤_, _<_}
+use Prim.Native.Nat.{ℕ, _≤_}
 use mathlib.Core.List.{List, []}
-use mathlib.Core.Path.{_≡_, refl, sym, ap, _∙_}
-use Rattle.rules.specs.declared.Answer.{Answer}
-use Rattle.rules.specs.declared.Verdict.{Verdict}
-use Rattle.rules.specs.Sizes.{base}
-use Rattle.rules.specs.Lists.{fold}
+use mathlib.Core.Path.{_≡_, sym, ap, _∙_}
+use Rattle.kinds.specs.declared.Verdict.{Verdict}
+use Rattle.kinds.specs.Sizes.{base}
+use Rattle.kinds.specs.Lists.{fold}
 use Rattle.rules.specs.Memory.{Mem, sizeR, slotAt}
 use Rattle.rules.specs.Outcome.{each, refuse}
 use Rattle.rules.specs.Verdicts.{verdict, guard-fine, guard-refused}

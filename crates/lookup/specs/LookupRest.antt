@@ -1,16 +1,16 @@
 -- What is left of a lookup once the slot is tested, and its ways out.
 use Prim.Native.Nat.{ℕ}
-use mathlib.Core.List.{List, [], _∷_, _++_}
-use mathlib.Core.Path.{_≡_, refl, sym, ap, subst, _∙_}
+use mathlib.Core.List.{List, []}
+use mathlib.Core.Path.{_≡_, refl, sym, subst}
 use lib.ListN.{length}
 use lib.Seq.{sets}
-use Rattle.rules.specs.declared.Answer.{Answer}
-use Rattle.rules.specs.declared.Answer.the-variants.{Listed}
-use Rattle.rules.specs.declared.Verdict.{Verdict}
-use Rattle.rules.specs.Sizes.{Sizes, base}
-use Rattle.rules.specs.Lists.{from}
-use Rattle.rules.specs.Slots.{Rec, addRecs}
-use Rattle.rules.specs.Memory.{Mem, mem, sizeR, wordsAt, slotAt, withSlot}
+use Rattle.kinds.specs.declared.Answer.{Answer}
+use Rattle.kinds.specs.declared.Answer.the-variants.{Listed}
+use Rattle.kinds.specs.declared.Verdict.{Verdict}
+use Rattle.kinds.specs.Sizes.{Sizes, base}
+use Rattle.kinds.specs.Lists.{from}
+use Rattle.kinds.specs.Slots.{Rec, addRecs}
+use Rattle.rules.specs.Memory.{Mem, sizeR, wordsAt, slotAt, withSlot}
 use Rattle.rules.specs.Outcome.{Outcome, out, Test, guard, each, refuse, slotTests}
 use Rattle.rules.specs.Verdicts.{verdict, guard-append, guard-fine, guard-refused}
 use Rattle.rules.specs.Lookup.{Found, stopped, got, find, lookupEnd, candidateTests, ownRowTests, ownRows, rowsToRead, lookupOut, lookupAllOut}

@@ -1,13 +1,13 @@
 -- The marks as the two lookups make them, and the rows that they stand for.
 use Prim.Native.Nat.{ℕ, zero, suc, _+_, _<_, _≤_}
-use mathlib.Core.Bool.{Bool, true, false, _||_, cond}
-use mathlib.Core.List.{List, [], _∷_}
-use mathlib.Core.Path.{_≡_, refl, sym, ap, _∙_}
+use mathlib.Core.Bool.{Bool, true, false, _||_}
+use mathlib.Core.List.{List, _∷_}
+use mathlib.Core.Path.{_≡_, refl, ap, _∙_}
 use native.Mathlib.Omega.{arith}
 use lib.ListN.{length, getD, replicate, length-replicate, getD-replicate}
-use Rattle.rules.specs.Sizes.{Sizes, base}
-use Rattle.rules.specs.Lists.{has, fold, keep, from, nonzero}
-use Rattle.rules.specs.Slots.{Write}
+use Rattle.kinds.specs.Sizes.{base}
+use Rattle.kinds.specs.Lists.{has, fold, keep, from, nonzero}
+use Rattle.kinds.specs.Slots.{Write}
 use Rattle.rules.specs.Memory.{Mem, sizeR}
 use Rattle.rules.specs.Lookup.{ownRows, rowsToRead}
 use Rattle.rules.specs.Theory.Cases.{byBool}

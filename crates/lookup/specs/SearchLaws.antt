@@ -1,16 +1,15 @@
 -- A search by what its scan came to: the ways out of the code that reads the marked rows.
-use Prim.Native.Nat.{ℕ, _≤_, _<_}
-use mathlib.Core.List.{List, []}
-use mathlib.Core.Path.{_≡_, refl, sym, ap, _∙_}
+use Prim.Native.Nat.{ℕ, _≤_}
+use mathlib.Core.List.{List}
+use mathlib.Core.Path.{_≡_}
 use native.Mathlib.Omega.{arith}
-use lib.ListN.{length, getD, take}
+use lib.ListN.{length, take}
 use lib.Seq.{sets}
-use Rattle.rules.specs.declared.Answer.{Answer}
-use Rattle.rules.specs.declared.Answer.the-variants.{Listed}
-use Rattle.rules.specs.declared.Verdict.{Verdict}
-use Rattle.rules.specs.Sizes.{base}
-use Rattle.rules.specs.Versions.{versionAt}
-use Rattle.rules.specs.Slots.{slotOf}
+use Rattle.kinds.specs.declared.Answer.{Answer}
+use Rattle.kinds.specs.declared.Answer.the-variants.{Listed}
+use Rattle.kinds.specs.declared.Verdict.{Verdict}
+use Rattle.kinds.specs.Sizes.{base}
+use Rattle.kinds.specs.Versions.{versionAt}
 use Rattle.rules.specs.Memory.{Mem, sizeR, sizeN, wordsAt, withSlot}
 use Rattle.rules.specs.Theory.SlotLaws.{SlotOk}
 use Rattle.gate.specs.FineLaws.{SlotFine}

@@ -1,19 +1,19 @@
 // Lookup of a key by a transaction whose slot was tested, over a caller's candidates or over all rows; and the filled front of a
 // caller's buffer. All rows are read first: slot and buffer are written at the end, so a refused lookup leaves both as they were.
 use finds::Listing;
-use rules::Answer;
-use rules::CELL_WORDS;
-use rules::CELLS;
-use rules::MOST_ROWS;
-use rules::ROWS;
-use rules::TxId;
-use rules::Verdict;
-use rules::WIDTH;
+use kinds::Answer;
+use kinds::CELL_WORDS;
+use kinds::CELLS;
+use kinds::MOST_ROWS;
+use kinds::ROWS;
+use kinds::TxId;
+use kinds::Verdict;
+use kinds::WIDTH;
 ghost use mathlib.Core.Path.{_≡_};
 ghost use Prim.Native.Nat.{_≤_};
 ghost use lib.ListN.{length, take};
 ghost use lib.Seq.{sets};
-ghost use Rattle.rules.specs.Sizes.{base};
+ghost use Rattle.kinds.specs.Sizes.{base};
 ghost use Rattle.rules.specs.Memory.{mem};
 ghost use Rattle.rules.specs.Lookup.{frontOf};
 ghost use Rattle.rules.specs.Lent.{memIn, memOut};

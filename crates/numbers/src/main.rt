@@ -1,16 +1,16 @@
 // Paper 01's "run only" numbers on visibility, reclaiming, snapshot and horizon, on hand-made memory: one line for each, compared with
 // the file stdout, which was worked out from the paper.
+use kinds::ACTIVE;
+use kinds::Cell;
+use kinds::ID;
+use kinds::LAST_ID;
+use kinds::LOW;
+use kinds::SLOTS;
+use kinds::TOP;
+use kinds::TxId;
+use kinds::Version;
+use kinds::WIDTH;
 use libc::STDOUT_FILENO;
-use rules::ACTIVE;
-use rules::Cell;
-use rules::ID;
-use rules::LAST_ID;
-use rules::LOW;
-use rules::SLOTS;
-use rules::TOP;
-use rules::TxId;
-use rules::Version;
-use rules::WIDTH;
 
 fn say(b: bool) {
     if b {

@@ -1,11 +1,11 @@
 -- The arena with one slot opened, in the terms of the rules' begin.
-use Prim.Native.Nat.{ℕ, zero, suc, _+_, _<_}
-use mathlib.Core.List.{List, [], _∷_}
-use mathlib.Core.Path.{_≡_, refl, sym, ap, _∙_}
+use Prim.Native.Nat.{ℕ, _+_, _<_}
+use mathlib.Core.List.{List, []}
+use mathlib.Core.Path.{_≡_}
 use lib.ListN.{length, getD, set, take}
-use lib.Seq.{sets, set-set, getD-set-same}
-use Rattle.rules.specs.Sizes.{Sizes, base, ID, WRITES, READS}
-use Rattle.rules.specs.Slots.{opened}
+use lib.Seq.{set-set, getD-set-same}
+use Rattle.kinds.specs.Sizes.{base, ID}
+use Rattle.kinds.specs.Slots.{opened}
 use Rattle.rules.specs.Snapshot.{occupied, snapLow, snapTop}
 
 -- "active = occupied slots in slot order, own included"

@@ -1,14 +1,14 @@
 -- Ids put one after the other, and words stored one after the other.
-use Prim.Native.Nat.{ℕ, zero, suc, _+_, _-_, _≤_, _<_, min}
+use Prim.Native.Nat.{ℕ, suc, _+_, _-_, _≤_, _<_, min}
 use mathlib.Core.Bool.{Bool, true, false, cond}
 use mathlib.Core.List.{List, [], _∷_, _++_, append-assoc, append-nil}
 use mathlib.Core.Path.{_≡_, refl, sym, ap, _∙_}
 use native.Mathlib.Omega.{arith}
 use native.Mathlib.Numerals.{add-one}
-use lib.ListN.{length, getD, set, take, drop, length-take, drop-of-length-le}
+use lib.ListN.{length, getD, set, take, drop, drop-of-length-le}
 use lib.Seq.{sets, drop-cons, take-suc-set, take-set-le}
 use lib.Dec.{eqb}
-use Rattle.rules.specs.Sizes.{ID}
+use Rattle.kinds.specs.Sizes.{ID}
 use Rattle.rules.specs.Snapshot.{occupied}
 use Rattle.slots.specs.OccupiedLaws.{rest, rest-turn, rest-end}
 

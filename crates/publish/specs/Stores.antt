@@ -8,11 +8,11 @@ use native.Mathlib.Omega.{arith}
 use lib.ListN.{length, getD}
 use lib.Seq.{set-set, set-comm}
 use borrow.Author.Tests.{eq-eqb, ne-eqb}
-use Rattle.rules.specs.declared.Version.{Version}
-use Rattle.rules.specs.Sizes.{Sizes}
-use Rattle.rules.specs.Lists.{fold}
-use Rattle.rules.specs.Versions.{withXmax, withNext, unlocked, wordsOf, versionAt, linkAt, putCell, putVersion}
-use Rattle.rules.specs.Slots.{Write}
+use Rattle.kinds.specs.declared.Version.{Version}
+use Rattle.kinds.specs.Sizes.{Sizes}
+use Rattle.kinds.specs.Lists.{fold}
+use Rattle.kinds.specs.Versions.{withXmax, withNext, unlocked, wordsOf, versionAt, linkAt, putCell, putVersion}
+use Rattle.kinds.specs.Slots.{Write}
 use Rattle.rules.specs.Memory.{Mem, mem, withHead, withCells}
 use Rattle.rules.specs.Commit.{markBase, publish, publishAll}
 use Rattle.rules.specs.Theory.Bridge.{AllIn, has-cell}

@@ -2,17 +2,17 @@
 // what a later one writes. Cut anywhere and made again from the start, the sequence ends the same (specs/Stores.antt).
 use arena::put_version;
 use arena::version_at;
-use rules::CELL_WORDS;
-use rules::Cell;
-use rules::MOST_WRITES;
-use rules::TxId;
-use rules::WIDTH;
-use rules::WRITES;
+use kinds::CELL_WORDS;
+use kinds::Cell;
+use kinds::MOST_WRITES;
+use kinds::TxId;
+use kinds::WIDTH;
+use kinds::WRITES;
 ghost use mathlib.Core.Path.{_≡_};
 ghost use Prim.Native.Nat.{min, _≤_};
 ghost use lib.ListN.{length};
-ghost use Rattle.rules.specs.Sizes.{base};
-ghost use Rattle.rules.specs.Slots.{slotOf, write};
+ghost use Rattle.kinds.specs.Sizes.{base};
+ghost use Rattle.kinds.specs.Slots.{slotOf, write};
 ghost use Rattle.rules.specs.Commit as rule;
 ghost use Rattle.rules.specs.Theory.Bridge.{WriteIn, AllIn};
 ghost use Rattle.publish.specs.PublishLaws.{lent};

@@ -1,14 +1,13 @@
 -- What the code finds for a row, for what the rules say.
 use Prim.Native.Nat.{ℕ}
 use mathlib.Core.Bool.{cond}
-use mathlib.Core.List.{List, [], _∷_}
 use mathlib.Core.Option.{Option, none, some}
 use mathlib.Core.Path.{_≡_, refl, ap}
 use native.Mathlib.Omega.{arith}
-use Rattle.rules.specs.declared.Cell.{Cell}
-use Rattle.rules.specs.declared.Version.{Version}
-use Rattle.rules.specs.Versions.{at}
-use Rattle.rules.specs.Slots.{Write}
+use Rattle.kinds.specs.declared.Cell.{Cell}
+use Rattle.kinds.specs.declared.Version.{Version}
+use Rattle.kinds.specs.Versions.{at}
+use Rattle.kinds.specs.Slots.{Write}
 use Rattle.rules.specs.Chain.{Look, found, nothing, tooLong, harmed}
 use Rattle.rules.specs.Outcome.{isCell}
 use Rattle.arena.specs.declared.Seen.{Seen}

@@ -1,17 +1,17 @@
 -- A slot's lists searched: own entries from the last back, records from the first on.
 use Prim.Native.Nat.{ℕ, zero, suc, _+_, _*_, _-_, _<_, _≤_}
-use mathlib.Core.Bool.{Bool, true, false, cond, _||_}
+use mathlib.Core.Bool.{Bool, true, false, cond}
 use mathlib.Core.List.{List, [], _∷_, _++_}
-use mathlib.Core.Option.{Option, none, some}
-use mathlib.Core.Path.{_≡_, refl, sym, ap, _∙_}
+use mathlib.Core.Option.{none, some}
+use mathlib.Core.Path.{_≡_, refl, sym, ap}
 use mathlib.Core.Logic.{_≢_}
 use native.Mathlib.Omega.{arith}
 use lib.ListN.{getD}
 use borrow.Author.Tests.{eq-eqb, ne-eqb}
-use Rattle.rules.specs.Lists.{last, orElse}
-use Rattle.rules.specs.Slots.{Write, Rec, write, rec, threes}
+use Rattle.kinds.specs.Lists.{last, orElse}
+use Rattle.kinds.specs.Slots.{Write, write, rec, threes}
 use Rattle.rules.specs.Read.{own, recorded}
-use Rattle.rules.specs.WordLaws.{threes-step, threes-done}
+use Rattle.kinds.specs.WordLaws.{threes-step, threes-done}
 use Rattle.rules.specs.Theory.SlotLaws.{threes-more}
 
 -- the last of a list with one member more

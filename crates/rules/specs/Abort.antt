@@ -1,16 +1,16 @@
 -- Abort: "unlock each base whose owner is this id, give cells back in write order, empty the slot".
 use Prim.Native.Nat.{ℕ}
-use mathlib.Core.Bool.{Bool, not, _&&_, cond}
-use mathlib.Core.List.{List, [], _∷_, _++_, map}
+use mathlib.Core.Bool.{not, _&&_, cond}
+use mathlib.Core.List.{List, [], _∷_, _++_}
 use lib.ListN.{set}
 use lib.Dec.{eqb, ltb}
-use Rattle.rules.specs.declared.Answer.{Answer}
-use Rattle.rules.specs.declared.Answer.the-variants.{Done}
-use Rattle.rules.specs.Sizes.{Sizes, FREE}
+use Rattle.kinds.specs.declared.Answer.{Answer}
+use Rattle.kinds.specs.declared.Answer.the-variants.{Done}
+use Rattle.kinds.specs.Sizes.{Sizes, FREE}
 use Rattle.rules.specs.Numbers.{damaged}
-use Rattle.rules.specs.Lists.{nonzero, fold}
-use Rattle.rules.specs.Versions.{emptyVersion, unlocked, versionAt, putCell, putVersion}
-use Rattle.rules.specs.Slots.{Write, emptied}
+use Rattle.kinds.specs.Lists.{nonzero, fold}
+use Rattle.kinds.specs.Versions.{emptyVersion, unlocked, versionAt, putCell, putVersion}
+use Rattle.kinds.specs.Slots.{Write, emptied}
 use Rattle.rules.specs.Memory.{Mem, mem, sizeN, free, slotAt, withCells, withSlot}
 use Rattle.rules.specs.Outcome.{Outcome, out, Test, test, guard, each, refuse, slotTests, isCell}
 

@@ -2,12 +2,12 @@
 use Prim.Native.Nat.{ℕ, _<_}
 use mathlib.Core.List.{List, [], _∷_, _++_}
 use mathlib.Core.Path.{refl}
-use Rattle.rules.specs.declared.Answer.{Answer}
-use Rattle.rules.specs.declared.Answer.the-variants.{Done}
-use Rattle.rules.specs.Sizes.{Sizes}
+use Rattle.kinds.specs.declared.Answer.{Answer}
+use Rattle.kinds.specs.declared.Answer.the-variants.{Done}
+use Rattle.kinds.specs.Sizes.{Sizes}
 use Rattle.rules.specs.Numbers.{damaged}
-use Rattle.rules.specs.Lists.{fold}
-use Rattle.rules.specs.Slots.{Write, emptied}
+use Rattle.kinds.specs.Lists.{fold}
+use Rattle.kinds.specs.Slots.{Write, emptied}
 use Rattle.rules.specs.Memory.{Mem, sizeN, slotAt, withCells, withSlot}
 use Rattle.rules.specs.Outcome.{Outcome, out, each, slotTests}
 use Rattle.rules.specs.Abort.{unlockBase, news, giveBack, abortTests, abortOut}

@@ -9,14 +9,14 @@ use native.Mathlib.Omega.{arith}
 use lib.ListN.{length, getD}
 use lib.Seq.{getD-set-same}
 use lib.Dec.{eqb}
-use Rattle.rules.specs.declared.Version.{Version}
-use Rattle.rules.specs.declared.Answer.{Answer}
-use Rattle.rules.specs.declared.Answer.the-variants.{Done}
-use Rattle.rules.specs.Sizes.{Sizes, FREE}
-use Rattle.rules.specs.Lists.{nonzero, fold}
+use Rattle.kinds.specs.declared.Version.{Version}
+use Rattle.kinds.specs.declared.Answer.{Answer}
+use Rattle.kinds.specs.declared.Answer.the-variants.{Done}
+use Rattle.kinds.specs.Sizes.{Sizes, FREE}
+use Rattle.kinds.specs.Lists.{nonzero, fold}
 use Rattle.rules.specs.Theory.Cases.{byBool, byEq, byLe}
-use Rattle.rules.specs.Versions.{emptyVersion, unlocked, versionOf, cellAt, versionAt, linkAt, putVersion}
-use Rattle.rules.specs.Slots.{Write, emptied}
+use Rattle.kinds.specs.Versions.{emptyVersion, unlocked, versionOf, cellAt, versionAt, linkAt, putVersion}
+use Rattle.kinds.specs.Slots.{Write, emptied}
 use Rattle.rules.specs.Memory.{Mem, sizeR, sizeN, free, slotAt, withCells, withSlot}
 use Rattle.rules.specs.Outcome.{Outcome, out, isCell}
 use Rattle.rules.specs.Abort.{unlockBase, news, abortOut}

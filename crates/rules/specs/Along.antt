@@ -7,11 +7,11 @@ use mathlib.Core.Logic.{_≢_}
 use native.Mathlib.Omega.{arith}
 use lib.ListN.{length}
 use borrow.Author.Tests.{eq-eqb, ne-eqb, lt-ltb, le-ltb}
-use Rattle.rules.specs.declared.Version.{Version}
-use Rattle.rules.specs.Lists.{first}
+use Rattle.kinds.specs.declared.Version.{Version}
+use Rattle.kinds.specs.Lists.{first}
 use Rattle.rules.specs.Theory.Cases.{byBool, byEq, byLe}
-use Rattle.rules.specs.Slots.{Slot}
-use Rattle.rules.specs.Visible.{visible}
+use Rattle.kinds.specs.Slots.{Slot}
+use Rattle.kinds.specs.Visible.{visible}
 use Rattle.rules.specs.Chain.{After, ends, goesOn, broken, Chain, chained, chain, Look, found, nothing, tooLong, harmed, look}
 use Rattle.rules.specs.Exactly.{All, holds-true, fails-false}
 use Rattle.rules.specs.Terms.{CellOf, Sees, is-seen}

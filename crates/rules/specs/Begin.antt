@@ -3,12 +3,12 @@ use Prim.Native.Nat.{ℕ, _+_}
 use mathlib.Core.List.{List, [], _∷_, _++_}
 use lib.ListN.{take, set}
 use lib.Dec.{eqb, leb}
-use Rattle.rules.specs.declared.Answer.{Answer}
-use Rattle.rules.specs.declared.Answer.the-variants.{Begun}
-use Rattle.rules.specs.Sizes.{Sizes, CLOCK, ID, lastId}
+use Rattle.kinds.specs.declared.Answer.{Answer}
+use Rattle.kinds.specs.declared.Answer.the-variants.{Begun}
+use Rattle.kinds.specs.Sizes.{Sizes, CLOCK, ID, lastId}
 use Rattle.rules.specs.Numbers.{clockSpent, noFreeSlot}
-use Rattle.rules.specs.Versions.{tx}
-use Rattle.rules.specs.Slots.{opened}
+use Rattle.kinds.specs.Versions.{tx}
+use Rattle.kinds.specs.Slots.{opened}
 use Rattle.rules.specs.Memory.{Mem, clock, wordsAt, withMeta, withSlot}
 use Rattle.rules.specs.Snapshot.{occupied, vacant, snapLow, snapTop}
 use Rattle.rules.specs.Outcome.{Outcome, out, test, guard, refuse, storeTests}

@@ -7,11 +7,11 @@ use native.Mathlib.Omega.{arith}
 use lib.ListN.{getD, take}
 use lib.Seq.{getD-take, getD-set-same}
 use borrow.Author.Tests.{eq-eqb, ne-eqb, le-leb}
-use Rattle.rules.specs.declared.Answer.{Answer}
-use Rattle.rules.specs.declared.Answer.the-variants.{Begun}
-use Rattle.rules.specs.Sizes.{Sizes, ID, CLOCK}
+use Rattle.kinds.specs.declared.Answer.{Answer}
+use Rattle.kinds.specs.declared.Answer.the-variants.{Begun}
+use Rattle.kinds.specs.Sizes.{Sizes, ID, CLOCK}
 use Rattle.rules.specs.Theory.Cases.{byEq, byLe}
-use Rattle.rules.specs.Versions.{tx}
+use Rattle.kinds.specs.Versions.{tx}
 use Rattle.rules.specs.Memory.{Mem, clock, wordsAt}
 use Rattle.rules.specs.Snapshot.{vacant}
 use Rattle.rules.specs.Outcome.{Outcome, out}

@@ -4,10 +4,10 @@ use mathlib.Core.Bool.{cond}
 use mathlib.Core.List.{List, [], _∷_}
 use mathlib.Core.Option.{Option, none, some}
 use lib.Dec.{eqb, ltb}
-use Rattle.rules.specs.declared.Version.{Version}
-use Rattle.rules.specs.Lists.{first}
-use Rattle.rules.specs.Slots.{Slot}
-use Rattle.rules.specs.Visible.{visible}
+use Rattle.kinds.specs.declared.Version.{Version}
+use Rattle.kinds.specs.Lists.{first}
+use Rattle.kinds.specs.Slots.{Slot}
+use Rattle.kinds.specs.Visible.{visible}
 
 -- what comes after the cells of a chain: pointer 0; a further pointer, where the limit is reached; a pointer above N
 pub data After : Type 0 where

@@ -1,18 +1,18 @@
 -- Commit: "no writes: just end. Otherwise validate, then for each write in order head must equal base and a nonzero base must have
 -- xmax 0. All tests come before any change."
 use Prim.Native.Nat.{ℕ}
-use mathlib.Core.Bool.{Bool, not, _&&_, cond}
+use mathlib.Core.Bool.{not, _&&_, cond}
 use mathlib.Core.List.{List, [], _∷_, _++_}
 use lib.Dec.{eqb, ltb, leb}
-use Rattle.rules.specs.declared.Answer.{Answer}
-use Rattle.rules.specs.declared.Answer.the-variants.{Done}
-use Rattle.rules.specs.Sizes.{Sizes}
+use Rattle.kinds.specs.declared.Answer.{Answer}
+use Rattle.kinds.specs.declared.Answer.the-variants.{Done}
+use Rattle.kinds.specs.Sizes.{Sizes}
 use Rattle.rules.specs.Numbers.{writeConflict, readConflict, damaged}
-use Rattle.rules.specs.Lists.{nonzero, fold}
-use Rattle.rules.specs.Versions.{withXmax, withNext, unlocked, versionAt, putVersion}
-use Rattle.rules.specs.Slots.{Write, Rec, Slot, emptied}
+use Rattle.kinds.specs.Lists.{nonzero, fold}
+use Rattle.kinds.specs.Versions.{withXmax, withNext, unlocked, versionAt, putVersion}
+use Rattle.kinds.specs.Slots.{Write, Rec, Slot, emptied}
 use Rattle.rules.specs.Memory.{Mem, sizeR, sizeN, headAt, slotAt, withHead, withCells, withSlot}
-use Rattle.rules.specs.Visible.{conflict}
+use Rattle.kinds.specs.Visible.{conflict}
 use Rattle.rules.specs.Outcome.{Outcome, out, Test, test, guard, each, refuse, slotTests, isCell}
 
 -- "base xmax = id and unlocked"

@@ -5,12 +5,12 @@ use mathlib.Core.List.{List, [], _∷_}
 use lib.ListN.{replicate}
 use lib.Seq.{sets}
 use lib.Dec.{eqb}
-use Rattle.rules.specs.declared.Answer.{Answer}
-use Rattle.rules.specs.declared.Answer.the-variants.{Done}
-use Rattle.rules.specs.Sizes.{Sizes}
+use Rattle.kinds.specs.declared.Answer.{Answer}
+use Rattle.kinds.specs.declared.Answer.the-variants.{Done}
+use Rattle.kinds.specs.Sizes.{Sizes}
 use Rattle.rules.specs.Numbers.{badSize}
-use Rattle.rules.specs.Versions.{emptyVersion, wordsOf}
-use Rattle.rules.specs.Slots.{emptied}
+use Rattle.kinds.specs.Versions.{emptyVersion, wordsOf}
+use Rattle.kinds.specs.Slots.{emptied}
 use Rattle.rules.specs.Memory.{Mem, mem}
 use Rattle.rules.specs.Outcome.{Outcome, out, test, guard, refuse, fits}
 

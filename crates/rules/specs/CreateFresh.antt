@@ -1,15 +1,13 @@
 -- "Fresh: clock 1, heads 0, slots empty, cells free. An accepted creation call starts a new history." And "a longer one is taken, its
 -- rest untouched".
-use Prim.Native.Nat.{ℕ, zero, suc, _+_, _-_, _≤_, _<_}
-use mathlib.Core.Bool.{cond}
-use mathlib.Core.List.{List, [], _∷_, _++_}
-use mathlib.Core.Path.{_≡_, refl, sym, ap, _∙_}
+use Prim.Native.Nat.{ℕ, zero, suc, _-_, _≤_, _<_}
+use mathlib.Core.List.{[], _∷_}
+use mathlib.Core.Path.{_≡_, ap, _∙_}
 use native.Mathlib.Omega.{arith}
 use lib.ListN.{length, getD, replicate, length-replicate, getD-replicate}
-use lib.Dec.{eqb}
-use Rattle.rules.specs.Sizes.{Sizes, metaWords}
-use Rattle.rules.specs.Versions.{emptyVersion, versionOf, wordsOf, cellAt, versionAt}
-use Rattle.rules.specs.Slots.{emptied}
+use Rattle.kinds.specs.Sizes.{Sizes, metaWords}
+use Rattle.kinds.specs.Versions.{emptyVersion, versionOf, wordsOf, cellAt, versionAt}
+use Rattle.kinds.specs.Slots.{emptied}
 use Rattle.rules.specs.Memory.{Mem, sizeR, sizeN, clock, headAt, wordsAt}
 use Rattle.rules.specs.Create.{freshCells, created}
 use Rattle.rules.specs.Terms.{Fitting}

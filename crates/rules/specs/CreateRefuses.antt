@@ -3,10 +3,10 @@ use Prim.Native.Nat.{ℕ}
 use mathlib.Core.List.{List, [], _∷_, _++_}
 use mathlib.Core.Path.{_≡_, refl}
 use lib.ListN.{take}
-use Rattle.rules.specs.declared.Answer.the-variants.{Done, Begun}
-use Rattle.rules.specs.Sizes.{Sizes, lastId}
+use Rattle.kinds.specs.declared.Answer.the-variants.{Done, Begun}
+use Rattle.kinds.specs.Sizes.{Sizes, lastId}
 use Rattle.rules.specs.Numbers.{badSize, clockSpent, noFreeSlot}
-use Rattle.rules.specs.Versions.{tx}
+use Rattle.kinds.specs.Versions.{tx}
 use Rattle.rules.specs.Memory.{Mem, clock}
 use Rattle.rules.specs.Snapshot.{vacant}
 use Rattle.rules.specs.Outcome.{out, storeTests}

@@ -7,13 +7,13 @@ use mathlib.Core.Option.{Option}
 use mathlib.Core.Path.{_≡_, refl}
 use mathlib.Core.Logic.{_≢_, _↔_, Iff·trans, Iff·and, _⊎_, inl, inr, ⊎-elim}
 use native.Mathlib.Omega.{arith}
-use Rattle.rules.specs.declared.ReadAnswer.{ReadAnswer}
-use Rattle.rules.specs.declared.Answer.{Answer}
-use Rattle.rules.specs.Sizes.{Sizes, ACTIVE, WRITES, READS}
+use Rattle.kinds.specs.declared.ReadAnswer.{ReadAnswer}
+use Rattle.kinds.specs.declared.Answer.{Answer}
+use Rattle.kinds.specs.Sizes.{Sizes, ACTIVE, WRITES, READS}
 use Rattle.rules.specs.Numbers.{badRow, damaged}
 use Rattle.rules.specs.Theory.Cases.{byEq, byLe}
-use Rattle.rules.specs.Versions.{versionAt}
-use Rattle.rules.specs.Slots.{Write, Rec, Slot}
+use Rattle.kinds.specs.Versions.{versionAt}
+use Rattle.kinds.specs.Slots.{Write, Rec, Slot}
 use Rattle.rules.specs.Memory.{Mem, sizeR, sizeN, free, headAt, slotAt}
 use Rattle.rules.specs.Begin.{beginOut}
 use Rattle.rules.specs.Read.{readOut}

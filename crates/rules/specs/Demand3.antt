@@ -9,14 +9,14 @@ use mathlib.Core.Path.{_≡_, refl, _∙_, ap, sym}
 use Prim.Native.Nat.{ℕ, _<_, _≤_, suc}
 use native.Mathlib.Omega.{arith}
 use lib.ListN.{length}
-use Rattle.rules.specs.declared.Answer.{Answer}
-use Rattle.rules.specs.declared.Answer.the-variants.{Done}
-use Rattle.rules.specs.declared.ReadAnswer.{ReadAnswer}
-use Rattle.rules.specs.Sizes.{base, Roomy, Sizes}
+use Rattle.kinds.specs.declared.Answer.{Answer}
+use Rattle.kinds.specs.declared.Answer.the-variants.{Done}
+use Rattle.kinds.specs.declared.ReadAnswer.{ReadAnswer}
+use Rattle.kinds.specs.Sizes.{base, Roomy, Sizes}
 use Rattle.rules.specs.Numbers.{readNumber, numberOf}
-use Rattle.rules.specs.Lists.{orElse, keep, from}
-use Rattle.rules.specs.Versions.{versionAt}
-use Rattle.rules.specs.Slots.{Rec, Slot}
+use Rattle.kinds.specs.Lists.{orElse, keep, from}
+use Rattle.kinds.specs.Versions.{versionAt}
+use Rattle.kinds.specs.Slots.{Rec, Slot}
 use Rattle.rules.specs.Memory.{Mem, slotAt, sizeR, sizeN, clock, headAt}
 use Rattle.rules.specs.Chain.{ends, Chain}
 use Rattle.rules.specs.Snapshot.{horizon}
@@ -24,7 +24,8 @@ use Rattle.rules.specs.Outcome.{refuse, slotTests}
 use Rattle.rules.specs.Create.{createOut}
 use Rattle.rules.specs.Read.{readOut, readAt, sees}
 use Rattle.rules.specs.Commit.{commitOut}
-use Rattle.rules.specs.Vacuum.{reclaimable, vacuumOut}
+use Rattle.rules.specs.Vacuum.{vacuumOut}
+use Rattle.kinds.specs.Versions.{reclaimable}
 use Rattle.rules.specs.Lookup.{ownRows, lookupOut, lookupAllOut}
 use Rattle.rules.specs.Run.{run, Call, replyNumber, step}
 use Rattle.rules.specs.History.{made, logOf, Log, whoIn, rowsIn, cellsIn, answerOf, valueIn, Val, ownIn, viewIn, lastIn}

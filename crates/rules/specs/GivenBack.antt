@@ -5,9 +5,9 @@ use mathlib.Core.Path.{_≡_, refl, ap, _∙_}
 use mathlib.Core.Logic.{_≢_, inl, inr}
 use lib.ListN.{length, getD}
 use lib.Seq.{getD-set-same, getD-set-other}
-use Rattle.rules.specs.Sizes.{Sizes, FREE}
-use Rattle.rules.specs.Lists.{fold}
-use Rattle.rules.specs.Versions.{versionOf, emptyVersion, cellAt, versionAt, linkAt}
+use Rattle.kinds.specs.Sizes.{Sizes, FREE}
+use Rattle.kinds.specs.Lists.{fold}
+use Rattle.kinds.specs.Versions.{versionOf, emptyVersion, cellAt, versionAt, linkAt}
 use Rattle.rules.specs.Memory.{Mem, free}
 use Rattle.rules.specs.Abort.{giveBack}
 use Rattle.rules.specs.Theory.CellLaws.{HasCell, length-put, put-on, put-link, put-else}

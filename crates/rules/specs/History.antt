@@ -5,11 +5,11 @@ use mathlib.Core.Option.{Option, none, some}
 use mathlib.Core.Path.{_≡_}
 use Prim.Native.Nat.{ℕ}
 use lib.Dec.{eqb}
-use Rattle.rules.specs.declared.Answer.{Answer}
-use Rattle.rules.specs.declared.Answer.the-variants.{Done, Begun, Wrote, Vacuumed, Listed}
-use Rattle.rules.specs.declared.ReadAnswer.{ReadAnswer}
-use Rattle.rules.specs.declared.ReadAnswer.the-variants.{Empty, Key, None}
-use Rattle.rules.specs.Lists.{orElse}
+use Rattle.kinds.specs.declared.Answer.{Answer}
+use Rattle.kinds.specs.declared.Answer.the-variants.{Done, Begun, Wrote, Vacuumed, Listed}
+use Rattle.kinds.specs.declared.ReadAnswer.{ReadAnswer}
+use Rattle.kinds.specs.declared.ReadAnswer.the-variants.{Empty, Key, None}
+use Rattle.kinds.specs.Lists.{orElse}
 use Rattle.rules.specs.Vacuum.{reports}
 use Rattle.rules.specs.Run.{commit, write, Call, Reply, looked, swept, create, gave, begin, read, abort, vacuum, lookup, lookupAll}
 

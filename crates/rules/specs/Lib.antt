@@ -1,10 +1,5 @@
-pub mod Sizes
 pub mod Numbers
-pub mod Lists
-pub mod Versions
-pub mod Slots
 pub mod Memory
-pub mod Visible
 pub mod Chain
 pub mod Snapshot
 pub mod Outcome
@@ -19,9 +14,7 @@ pub mod Lookup
 pub mod Run
 pub mod WholeRun
 pub mod Lent
-pub mod WordLaws
 pub mod Verdicts
-pub mod WorkedNumbers
 pub mod History
 pub mod Reachable
 pub mod Listing
@@ -29,6 +22,7 @@ pub mod Theory
 pub mod Validation
 pub mod Demand3
 pub mod ReaderRun
+pub mod Slips
 pub mod RefusedChangesNothing
 pub mod Exactly
 pub mod Terms

@@ -8,12 +8,12 @@ use mathlib.Core.Path.{_≡_}
 use Prim.Native.Nat.{ℕ, _+_}
 use lib.Dec.{ltb, leb, eqb}
 use lib.ListN.{length}
-use Rattle.rules.specs.declared.Answer.{Answer}
-use Rattle.rules.specs.declared.Answer.the-variants.{Listed}
-use Rattle.rules.specs.Sizes.{Sizes}
+use Rattle.kinds.specs.declared.Answer.{Answer}
+use Rattle.kinds.specs.declared.Answer.the-variants.{Listed}
+use Rattle.kinds.specs.Sizes.{Sizes}
 use Rattle.rules.specs.Numbers.{chainTooLong, readSetFull, resultFull}
-use Rattle.rules.specs.Lists.{keep, has, from, first}
-use Rattle.rules.specs.Slots.{Rec}
+use Rattle.kinds.specs.Lists.{keep, has, from, first}
+use Rattle.kinds.specs.Slots.{Rec}
 use Rattle.rules.specs.Memory.{Mem, slotAt}
 use Rattle.rules.specs.Outcome.{Outcome, refuse}
 use Rattle.rules.specs.Read.{recorded}

@@ -1,19 +1,19 @@
 -- Lookup of a key: "candidates (any order, repeats allowed) and own written rows are read in ascending order, each once; the rows with
 -- that key are listed ascending. A second call serves all rows."
 use Prim.Native.Nat.{ℕ}
-use mathlib.Core.Bool.{Bool, true, false, not, _&&_, _||_, cond}
+use mathlib.Core.Bool.{Bool, false, _||_, cond}
 use mathlib.Core.List.{List, [], _∷_, _++_}
 use lib.ListN.{length, take}
 use lib.Dec.{eqb, leb}
-use Rattle.rules.specs.declared.ReadAnswer.{ReadAnswer}
-use Rattle.rules.specs.declared.ReadAnswer.the-variants.{None, Empty, Key}
-use Rattle.rules.specs.declared.Answer.{Answer}
-use Rattle.rules.specs.declared.Answer.the-variants.{Listed}
-use Rattle.rules.specs.Sizes.{Sizes}
+use Rattle.kinds.specs.declared.ReadAnswer.{ReadAnswer}
+use Rattle.kinds.specs.declared.ReadAnswer.the-variants.{None, Empty, Key}
+use Rattle.kinds.specs.declared.Answer.{Answer}
+use Rattle.kinds.specs.declared.Answer.the-variants.{Listed}
+use Rattle.kinds.specs.Sizes.{Sizes}
 use Rattle.rules.specs.Numbers.{resultFull, damaged}
-use Rattle.rules.specs.Lists.{has, keep, fold, from}
-use Rattle.rules.specs.Versions.{versionAt}
-use Rattle.rules.specs.Slots.{Write, Rec, Slot, addRecs}
+use Rattle.kinds.specs.Lists.{has, keep, fold, from}
+use Rattle.kinds.specs.Versions.{versionAt}
+use Rattle.kinds.specs.Slots.{Write, Rec, Slot, addRecs}
 use Rattle.rules.specs.Memory.{Mem, sizeR, wordsAt, slotAt, withSlot}
 use Rattle.rules.specs.Outcome.{Outcome, out, Test, test, guard, each, refuse, slotTests, rowTest}
 use Rattle.rules.specs.Read.{answerAt, Sight, blocked, sees, readAt}

@@ -6,12 +6,12 @@ use mathlib.Core.Option.{Option, none, some}
 use mathlib.Core.Path.{_≡_, refl, sym, ap, _∙_, subst}
 use mathlib.Core.Logic.{inl, inr}
 use lib.ListN.{length}
-use Rattle.rules.specs.declared.Answer.{Answer}
-use Rattle.rules.specs.declared.Answer.the-variants.{Listed}
-use Rattle.rules.specs.Sizes.{Sizes}
-use Rattle.rules.specs.Lists.{from}
-use Rattle.rules.specs.Versions.{versionAt}
-use Rattle.rules.specs.Slots.{Write, Rec}
+use Rattle.kinds.specs.declared.Answer.{Answer}
+use Rattle.kinds.specs.declared.Answer.the-variants.{Listed}
+use Rattle.kinds.specs.Sizes.{Sizes}
+use Rattle.kinds.specs.Lists.{from}
+use Rattle.kinds.specs.Versions.{versionAt}
+use Rattle.kinds.specs.Slots.{Write, Rec}
 use Rattle.rules.specs.Memory.{Mem, sizeR, sizeN, headAt, slotAt}
 use Rattle.rules.specs.Chain.{Look, found, nothing, tooLong, harmed, look}
 use Rattle.rules.specs.Outcome.{Outcome}

@@ -1,9 +1,9 @@
 -- The lent memory: four arenas. `Mem z` is a memory of a store of sizes z; nothing else is said of it, its lists may be of any length.
-use Prim.Native.Nat.{ℕ, _+_}
+use Prim.Native.Nat.{ℕ}
 use mathlib.Core.List.{List, []}
 use lib.ListN.{getD, set}
-use Rattle.rules.specs.Sizes.{Sizes, ROWS, CELLS, CLOCK, FREE}
-use Rattle.rules.specs.Slots.{Slot, slotOf}
+use Rattle.kinds.specs.Sizes.{Sizes, ROWS, CELLS, CLOCK, FREE}
+use Rattle.kinds.specs.Slots.{Slot, slotOf}
 
 pub record Mem (z : Sizes) : Type 0 where
   pub meta : List ℕ

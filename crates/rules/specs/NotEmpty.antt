@@ -8,16 +8,16 @@ use mathlib.Core.Path.{_≡_, refl, sym, _∙_, subst}
 use mathlib.Core.Logic.{_≢_, inl, inr}
 use native.Mathlib.Omega.{arith}
 use lib.ListN.{length, getD, set, take, replicate}
-use Rattle.rules.specs.declared.ReadAnswer.{ReadAnswer}
-use Rattle.rules.specs.declared.ReadAnswer.the-variants.{None, Key}
-use Rattle.rules.specs.declared.Answer.the-variants.{Done, Begun, Wrote, Vacuumed, Listed, Refused}
-use Rattle.rules.specs.Sizes.{base, lastId, ID, WRITES}
-use Rattle.rules.specs.Lists.{has, keep, first, last, fold, least, greatest, from}
-use Rattle.rules.specs.Versions.{tx, at, versionOf, wordsOf, cellAt, versionAt, linkAt, withXmax, withNext, lockedFor, unlocked, putCell}
-use Rattle.rules.specs.Slots.{words, threes, slotOf, push, opened}
-use Rattle.rules.specs.Slots as S
+use Rattle.kinds.specs.declared.ReadAnswer.{ReadAnswer}
+use Rattle.kinds.specs.declared.ReadAnswer.the-variants.{None, Key}
+use Rattle.kinds.specs.declared.Answer.the-variants.{Done, Begun, Wrote, Vacuumed, Listed, Refused}
+use Rattle.kinds.specs.Sizes.{base, lastId, ID, WRITES}
+use Rattle.kinds.specs.Lists.{has, keep, first, last, fold, least, greatest, from}
+use Rattle.kinds.specs.Versions.{tx, at, versionOf, wordsOf, cellAt, versionAt, linkAt, withXmax, withNext, lockedFor, unlocked, putCell}
+use Rattle.kinds.specs.Slots.{words, threes, slotOf, push, opened}
+use Rattle.kinds.specs.Slots as S
 use Rattle.rules.specs.Memory.{Mem, mem, sizeR, sizeN, free, headAt, wordsAt, slotAt, withSlot}
-use Rattle.rules.specs.Visible.{creatorVisible, visible, conflict}
+use Rattle.kinds.specs.Visible.{creatorVisible, visible, conflict}
 use Rattle.rules.specs.Chain.{chain, look}
 use Rattle.rules.specs.Snapshot.{occupied, vacant, horizonOf}
 use Rattle.rules.specs.Outcome.{out, refuse, guard, each, fits, storeTests, slotTests}
@@ -27,7 +27,8 @@ use Rattle.rules.specs.Read.{own, answerAt, recorded, sightOf, ownSight,
 use Rattle.rules.specs.Write.{lockBase, prepared, headTests, writeNow, writeOut}
 use Rattle.rules.specs.Commit.{markBase, commitTests, publish, commitOut}
 use Rattle.rules.specs.Abort.{news, unlockBase, giveBack, abortOut}
-use Rattle.rules.specs.Vacuum.{reclaimable, relink, reports, swept, vacuumNow, vacuumOut}
+use Rattle.rules.specs.Vacuum.{relink, reports, swept, vacuumNow, vacuumOut}
+use Rattle.kinds.specs.Versions.{reclaimable}
 use Rattle.rules.specs.Lookup.{isKey, listRow, findRow, lookupEnd, rowsToRead, lookupOut, lookupAllOut}
 use Rattle.rules.specs.Run.{Call, create, begin, write, commit, replyNumber, step, run}
 use Rattle.rules.specs.Exactly.{In, NoneOf, inAnswer, inRead, accepted-none, not-refused, none-append}

@@ -4,11 +4,11 @@ use mathlib.Core.Bool.{Bool, not, _&&_, _||_, cond}
 use mathlib.Core.List.{List, [], _∷_, _++_}
 use lib.ListN.{length, getD}
 use lib.Dec.{eqb, ltb, leb}
-use Rattle.rules.specs.declared.ReadAnswer.{ReadAnswer}
-use Rattle.rules.specs.declared.Answer.{Answer}
-use Rattle.rules.specs.Sizes.{Sizes, metaWords, ID, ACTIVE, WRITES, READS}
+use Rattle.kinds.specs.declared.ReadAnswer.{ReadAnswer}
+use Rattle.kinds.specs.declared.Answer.{Answer}
+use Rattle.kinds.specs.Sizes.{Sizes, metaWords, ID, ACTIVE, WRITES, READS}
 use Rattle.rules.specs.Numbers.{badSlot, notOwner, badRow, damaged}
-use Rattle.rules.specs.Lists.{nonzero}
+use Rattle.kinds.specs.Lists.{nonzero}
 use Rattle.rules.specs.Memory.{Mem, sizeR, sizeN, clock, wordsAt}
 
 -- the answer; what is written at the front of the caller's buffer, the rest untouched; the memory after

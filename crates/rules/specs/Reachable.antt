@@ -8,22 +8,23 @@ use mathlib.Core.Path.{_≡_}
 use Prim.Native.Nat.{ℕ, _<_, suc, _≤_}
 use lib.Dec.{eqb}
 use lib.ListN.{take, length}
-use Rattle.rules.specs.declared.Answer.{Answer}
-use Rattle.rules.specs.declared.Answer.the-variants.{Done, Vacuumed}
-use Rattle.rules.specs.declared.ReadAnswer.the-variants.{None}
-use Rattle.rules.specs.Sizes.{Sizes}
-use Rattle.rules.specs.Lists.{nonzero, first, from, has, keep}
-use Rattle.rules.specs.Versions.{versionAt, withNext, emptyVersion, linkAt, valueOf}
-use Rattle.rules.specs.Slots.{Rec, Write, Slot}
+use Rattle.kinds.specs.declared.Answer.{Answer}
+use Rattle.kinds.specs.declared.Answer.the-variants.{Done, Vacuumed}
+use Rattle.kinds.specs.declared.ReadAnswer.the-variants.{None}
+use Rattle.kinds.specs.Sizes.{Sizes}
+use Rattle.kinds.specs.Lists.{nonzero, first, from, has, keep}
+use Rattle.kinds.specs.Versions.{versionAt, withNext, emptyVersion, linkAt, valueOf}
+use Rattle.kinds.specs.Slots.{Rec, Write, Slot}
 use Rattle.rules.specs.Memory.{Mem, sizeN, headAt, free, slotAt, sizeR}
-use Rattle.rules.specs.Visible.{visible}
+use Rattle.kinds.specs.Visible.{visible}
 use Rattle.rules.specs.Chain.{chain, Chain}
 use Rattle.rules.specs.Snapshot.{horizon}
 use Rattle.rules.specs.Outcome.{Outcome, out}
 use Rattle.rules.specs.Create.{createOut}
 use Rattle.rules.specs.Read.{recorded}
 use Rattle.rules.specs.Abort.{news}
-use Rattle.rules.specs.Vacuum.{reclaimable, reports}
+use Rattle.rules.specs.Vacuum.{reports}
+use Rattle.kinds.specs.Versions.{reclaimable}
 use Rattle.rules.specs.Run.{Call, run}
 use Rattle.rules.specs.History.{Log, logOf, made, Val, said, ownIn, whoIn, GoesOn}
 

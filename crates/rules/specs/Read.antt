@@ -1,18 +1,18 @@
 -- Read: "own write of the row if any, unrecorded; else the first visible version from the head".
 use Prim.Native.Nat.{ℕ}
-use mathlib.Core.Bool.{Bool, false, not, _&&_, _||_, cond}
+use mathlib.Core.Bool.{Bool, false, _||_, cond}
 use mathlib.Core.List.{List, [], _∷_, _++_}
 use mathlib.Core.Option.{Option, none, some}
 use lib.ListN.{length}
 use lib.Dec.{eqb, leb}
-use Rattle.rules.specs.declared.Version.{Version}
-use Rattle.rules.specs.declared.ReadAnswer.{ReadAnswer}
-use Rattle.rules.specs.declared.ReadAnswer.the-variants.{None}
-use Rattle.rules.specs.Sizes.{Sizes}
+use Rattle.kinds.specs.declared.Version.{Version}
+use Rattle.kinds.specs.declared.ReadAnswer.{ReadAnswer}
+use Rattle.kinds.specs.declared.ReadAnswer.the-variants.{None}
+use Rattle.kinds.specs.Sizes.{Sizes}
 use Rattle.rules.specs.Numbers.{chainTooLong, readSetFull, damaged}
-use Rattle.rules.specs.Lists.{has, last}
-use Rattle.rules.specs.Versions.{versionAt, valueOf}
-use Rattle.rules.specs.Slots.{Write, Rec, rec, Slot, addRecs}
+use Rattle.kinds.specs.Lists.{last}
+use Rattle.kinds.specs.Versions.{versionAt, valueOf}
+use Rattle.kinds.specs.Slots.{Write, Rec, rec, Slot, addRecs}
 use Rattle.rules.specs.Memory.{Mem, sizeN, headAt, wordsAt, slotAt, withSlot}
 use Rattle.rules.specs.Chain.{Look, found, nothing, tooLong, harmed, look}
 use Rattle.rules.specs.Outcome.{Outcome, out, guard, refuseRead, slotTests, rowTest, isCell}

@@ -6,12 +6,12 @@ use mathlib.Core.Path.{_≡_, refl, sym, ap, _∙_, subst}
 use mathlib.Core.Logic.{_≢_, _↔_, Iff·trans, Iff·and, inl, inr}
 use native.Mathlib.Omega.{arith}
 use lib.ListN.{length, take}
-use Rattle.rules.specs.declared.Version.{Version}
-use Rattle.rules.specs.declared.ReadAnswer.{ReadAnswer}
-use Rattle.rules.specs.Sizes.{Sizes}
+use Rattle.kinds.specs.declared.Version.{Version}
+use Rattle.kinds.specs.declared.ReadAnswer.{ReadAnswer}
+use Rattle.kinds.specs.Sizes.{Sizes}
 use Rattle.rules.specs.Numbers.{chainTooLong, readSetFull}
-use Rattle.rules.specs.Versions.{versionAt}
-use Rattle.rules.specs.Slots.{Slot}
+use Rattle.kinds.specs.Versions.{versionAt}
+use Rattle.kinds.specs.Slots.{Slot}
 use Rattle.rules.specs.Memory.{Mem, sizeN, headAt, slotAt}
 use Rattle.rules.specs.Chain.{Look, found, tooLong, harmed}
 use Rattle.rules.specs.Read.{readOut}

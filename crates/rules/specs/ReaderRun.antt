@@ -6,14 +6,14 @@ use mathlib.Core.Option.{some, none}
 use mathlib.Core.Path.{_≡_, refl, ap}
 use Prim.Native.Nat.{ℕ, _≤_}
 use lib.ListN.{replicate}
-use Rattle.rules.specs.declared.Answer.the-variants.{Begun, Wrote, Done, Vacuumed, Listed}
-use Rattle.rules.specs.declared.ReadAnswer.the-variants.{Key, None}
-use Rattle.rules.specs.Sizes.{base, lastId}
-use Rattle.rules.specs.Lists.{last, fold, has, keep, first, least, greatest, from}
-use Rattle.rules.specs.Versions.{at, tx, versionOf, wordsOf, cellAt, putCell}
-use Rattle.rules.specs.Slots.{words, threes, slotOf, push, opened}
+use Rattle.kinds.specs.declared.Answer.the-variants.{Begun, Wrote, Done, Vacuumed, Listed}
+use Rattle.kinds.specs.declared.ReadAnswer.the-variants.{Key, None}
+use Rattle.kinds.specs.Sizes.{base, lastId}
+use Rattle.kinds.specs.Lists.{last, fold, has, keep, first, least, greatest, from}
+use Rattle.kinds.specs.Versions.{at, tx, versionOf, wordsOf, cellAt, putCell}
+use Rattle.kinds.specs.Slots.{words, threes, slotOf, push, opened}
 use Rattle.rules.specs.Memory.{Mem, mem}
-use Rattle.rules.specs.Visible.{creatorVisible, visible, conflict}
+use Rattle.kinds.specs.Visible.{creatorVisible, visible, conflict}
 use Rattle.rules.specs.Chain.{look, chain}
 use Rattle.rules.specs.Snapshot.{occupied, vacant, horizonOf}
 use Rattle.rules.specs.Outcome.{guard, each, fits, storeTests, slotTests}
@@ -23,7 +23,8 @@ use Rattle.rules.specs.Read.{own, answerAt, recorded, sightOf, ownSight,
 use Rattle.rules.specs.Write.{lockBase, prepared, headTests, writeNow, writeOut}
 use Rattle.rules.specs.Commit.{markBase, commitTests, publish, commitOut}
 use Rattle.rules.specs.Abort.{unlockBase, giveBack, abortOut}
-use Rattle.rules.specs.Vacuum.{swept, reclaimable, relink, reports, vacuumNow, vacuumOut}
+use Rattle.rules.specs.Vacuum.{swept, relink, reports, vacuumNow, vacuumOut}
+use Rattle.kinds.specs.Versions.{reclaimable}
 use Rattle.rules.specs.Lookup.{isKey, listRow, findRow, lookupEnd, rowsToRead, lookupOut, lookupAllOut}
 use Rattle.rules.specs.Run.{Call, begin, write, commit, vacuum, read, lookupAll, Reply, gave, looked, run, step}
 use Rattle.rules.specs.History.{Log, logOf, made, valueIn, said, logged, commits, writesIn, viewIn, lastIn, ownIn, whoIn, rowsIn, cellsIn}

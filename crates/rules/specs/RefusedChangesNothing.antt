@@ -6,15 +6,15 @@ use mathlib.Core.Option.{Option, none, some}
 use mathlib.Core.Path.{_≡_, refl}
 use native.Mathlib.Omega.{arith}
 use lib.Dec.{eqb}
-use Rattle.rules.specs.declared.Version.{Version}
-use Rattle.rules.specs.declared.ReadAnswer.{ReadAnswer}
-use Rattle.rules.specs.declared.Answer.{Answer}
-use Rattle.rules.specs.Sizes.{Sizes}
+use Rattle.kinds.specs.declared.Version.{Version}
+use Rattle.kinds.specs.declared.ReadAnswer.{ReadAnswer}
+use Rattle.kinds.specs.declared.Answer.{Answer}
+use Rattle.kinds.specs.Sizes.{Sizes}
 use Rattle.rules.specs.Numbers.{readNumber, numberOf}
-use Rattle.rules.specs.Lists.{nonzero}
+use Rattle.kinds.specs.Lists.{nonzero}
 use Rattle.rules.specs.Theory.Cases.{byBool}
-use Rattle.rules.specs.Versions.{versionAt}
-use Rattle.rules.specs.Slots.{Write}
+use Rattle.kinds.specs.Versions.{versionAt}
+use Rattle.kinds.specs.Slots.{Write}
 use Rattle.rules.specs.Memory.{Mem}
 use Rattle.rules.specs.Chain.{After, ends, goesOn, broken}
 use Rattle.rules.specs.Outcome.{Outcome, out, Test, guard}

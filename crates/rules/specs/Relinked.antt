@@ -4,8 +4,8 @@ use mathlib.Core.List.{List, [], _∷_}
 use mathlib.Core.Path.{_≡_, refl, sym, ap, _∙_, subst}
 use mathlib.Core.Logic.{_≢_, inl, inr}
 use lib.ListN.{length, getD}
-use Rattle.rules.specs.declared.Version.{Version}
-use Rattle.rules.specs.Versions.{withNext, versionOf, cellAt, versionAt, linkAt, putVersion}
+use Rattle.kinds.specs.declared.Version.{Version}
+use Rattle.kinds.specs.Versions.{withNext, versionOf, cellAt, versionAt, linkAt, putVersion}
 use Rattle.rules.specs.Vacuum.{relink}
 use Rattle.rules.specs.Exactly.{In, All, all-map}
 use Rattle.rules.specs.Along.{Along}

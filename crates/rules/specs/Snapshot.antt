@@ -1,11 +1,11 @@
 -- The snapshot rule of Begin, and the horizon.
-use Prim.Native.Nat.{ℕ, zero, suc, min, max}
+use Prim.Native.Nat.{ℕ, suc, min, max}
 use mathlib.Core.Bool.{cond}
 use mathlib.Core.List.{List, [], _∷_}
 use lib.ListN.{take, getD}
 use lib.Dec.{eqb}
-use Rattle.rules.specs.Sizes.{Sizes, lastId, ID, LOW}
-use Rattle.rules.specs.Lists.{least, greatest}
+use Rattle.kinds.specs.Sizes.{Sizes, lastId, ID, LOW}
+use Rattle.kinds.specs.Lists.{least, greatest}
 use Rattle.rules.specs.Memory.{Mem, clock}
 
 -- word k of the occupied slots, in slot order: "occupied" is an id other than 0

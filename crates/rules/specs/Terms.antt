@@ -10,14 +10,14 @@ use native.Mathlib.Omega.{arith}
 use lib.ListN.{length, take, getD}
 use lib.Dec.{eqb, leb}
 use borrow.Author.Tests.{eq-eqb, ne-eqb}
-use Rattle.rules.specs.declared.Version.{Version}
-use Rattle.rules.specs.Sizes.{Sizes, metaWords, ID}
-use Rattle.rules.specs.Lists.{last, orElse}
+use Rattle.kinds.specs.declared.Version.{Version}
+use Rattle.kinds.specs.Sizes.{Sizes, metaWords, ID}
+use Rattle.kinds.specs.Lists.{last, orElse}
 use Rattle.rules.specs.Theory.Cases.{byBool, byEq, no-both}
-use Rattle.rules.specs.Versions.{lockedByOther}
-use Rattle.rules.specs.Slots.{Write, Rec, Slot}
+use Rattle.kinds.specs.Versions.{lockedByOther}
+use Rattle.kinds.specs.Slots.{Write, Rec, Slot}
 use Rattle.rules.specs.Memory.{Mem, sizeR, sizeN, clock}
-use Rattle.rules.specs.Visible.{creatorVisible, visible, conflict}
+use Rattle.kinds.specs.Visible.{creatorVisible, visible, conflict}
 use Rattle.rules.specs.Snapshot.{vacant}
 use Rattle.rules.specs.Outcome.{fits, isCell}
 use Rattle.rules.specs.Read.{own, recorded}

@@ -1,27 +1,21 @@
 -- Vacuum of a row: the chain as a list, a filter, what is left.
 use Prim.Native.Nat.{ℕ}
-use mathlib.Core.Bool.{Bool, not, _&&_, cond}
+use mathlib.Core.Bool.{not}
 use mathlib.Core.List.{List, [], _∷_, _++_}
 use lib.ListN.{length}
-use lib.Dec.{eqb, ltb}
-use Rattle.rules.specs.declared.Version.{Version}
-use Rattle.rules.specs.declared.ReadAnswer.{ReadAnswer}
-use Rattle.rules.specs.declared.ReadAnswer.the-variants.{None}
-use Rattle.rules.specs.declared.Answer.{Answer}
-use Rattle.rules.specs.declared.Answer.the-variants.{Vacuumed}
-use Rattle.rules.specs.Sizes.{Sizes}
+use lib.Dec.{ltb}
+use Rattle.kinds.specs.declared.ReadAnswer.the-variants.{None}
+use Rattle.kinds.specs.declared.Answer.{Answer}
+use Rattle.kinds.specs.declared.Answer.the-variants.{Vacuumed}
+use Rattle.kinds.specs.Sizes.{Sizes}
 use Rattle.rules.specs.Numbers.{resultFull, damaged}
-use Rattle.rules.specs.Lists.{nonzero, keep, fold}
-use Rattle.rules.specs.Versions.{withNext, valueOf, versionAt, putVersion}
+use Rattle.kinds.specs.Lists.{keep, fold}
+use Rattle.kinds.specs.Versions.{withNext, valueOf, versionAt, putVersion, reclaimable}
 use Rattle.rules.specs.Memory.{Mem, sizeN, headAt, withCells}
-use Rattle.rules.specs.Chain.{After, ends, goesOn, broken, Chain, chain}
+use Rattle.rules.specs.Chain.{After, ends, goesOn, broken, chain}
 use Rattle.rules.specs.Snapshot.{horizon}
 use Rattle.rules.specs.Outcome.{Outcome, out, test, guard, refuse, storeTests, rowTest}
 use Rattle.rules.specs.Abort.{giveBack}
-
--- "reclaimable are the versions after the head with xmax nonzero, below the horizon, unlocked"
-unfoldable pub reclaimable : ℕ → Version → Bool
-reclaimable hz v = nonzero (v .xmax .0) && (ltb (v .xmax .0) hz && not (nonzero (v .locked)))
 
 -- the cells of a list linked one to the next, the last to 0
 unfoldable pub relink : List ℕ → List (List ℕ) → List (List ℕ)

@@ -4,10 +4,10 @@ use mathlib.Core.List.{List, [], _∷_, _++_}
 use mathlib.Core.Path.{_≡_, refl, sym, ap, _∙_}
 use mathlib.Core.Logic.{_↔_, Iff·trans, Iff·and, _⊎_, inl, inr}
 use native.Mathlib.Omega.{arith}
-use Rattle.rules.specs.declared.Answer.{Answer}
-use Rattle.rules.specs.Sizes.{Sizes}
+use Rattle.kinds.specs.declared.Answer.{Answer}
+use Rattle.kinds.specs.Sizes.{Sizes}
 use Rattle.rules.specs.Numbers.{resultFull, damaged}
-use Rattle.rules.specs.Versions.{versionAt}
+use Rattle.kinds.specs.Versions.{versionAt}
 use Rattle.rules.specs.Memory.{Mem, sizeN, headAt}
 use Rattle.rules.specs.Chain.{After, ends, goesOn, broken, Chain}
 use Rattle.rules.specs.Snapshot.{horizon}

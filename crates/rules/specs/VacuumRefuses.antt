@@ -7,18 +7,19 @@ use mathlib.Core.Logic.{_≢_, _⊎_, inl, inr}
 use native.Mathlib.Omega.{arith}
 use lib.ListN.{length}
 use lib.Dec.{ltb}
-use Rattle.rules.specs.declared.Version.{Version}
-use Rattle.rules.specs.declared.Answer.{Answer}
-use Rattle.rules.specs.Sizes.{Sizes}
+use Rattle.kinds.specs.declared.Version.{Version}
+use Rattle.kinds.specs.declared.Answer.{Answer}
+use Rattle.kinds.specs.Sizes.{Sizes}
 use Rattle.rules.specs.Numbers.{resultFull, damaged}
-use Rattle.rules.specs.Lists.{keep}
+use Rattle.kinds.specs.Lists.{keep}
 use Rattle.rules.specs.Theory.Cases.{byBool, byEq}
-use Rattle.rules.specs.Versions.{versionAt}
+use Rattle.kinds.specs.Versions.{versionAt}
 use Rattle.rules.specs.Memory.{Mem, sizeN, headAt}
 use Rattle.rules.specs.Chain.{After, ends, goesOn, broken, Chain, chained, chain}
 use Rattle.rules.specs.Snapshot.{horizon}
 use Rattle.rules.specs.Outcome.{Outcome, guard, storeTests, rowTest}
-use Rattle.rules.specs.Vacuum.{reclaimable, swept, vacuumNow, vacuumOut}
+use Rattle.rules.specs.Vacuum.{swept, vacuumNow, vacuumOut}
+use Rattle.kinds.specs.Versions.{reclaimable}
 use Rattle.rules.specs.Exactly.{Line, line, Reflects, Exactly, inAnswer, not-refused, is-less, is-most, is-not, is-nonzero, is-both, is-also, holds-true, fails-false, says-append, exactly-guarded, exactly-blocked, exactly-accepted}
 use Rattle.rules.specs.Along.{Way, ChainIs, chain-is, is-chain}
 use Rattle.rules.specs.SharedLines.{storeLines, store-says, rowLine}

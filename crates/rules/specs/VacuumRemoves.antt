@@ -7,12 +7,12 @@ use mathlib.Core.Path.{_≡_, refl, sym, ap, _∙_, subst}
 use mathlib.Core.Logic.{_≢_, _↔_, inl, inr}
 use native.Mathlib.Omega.{arith}
 use lib.ListN.{length, getD}
-use Rattle.rules.specs.declared.Version.{Version}
-use Rattle.rules.specs.declared.ReadAnswer.the-variants.{None}
-use Rattle.rules.specs.declared.Answer.{Answer}
-use Rattle.rules.specs.declared.Answer.the-variants.{Vacuumed}
-use Rattle.rules.specs.Sizes.{Sizes, CELLS, FREE}
-use Rattle.rules.specs.Versions.{withNext, valueOf, emptyVersion, versionOf, cellAt, versionAt, linkAt}
+use Rattle.kinds.specs.declared.Version.{Version}
+use Rattle.kinds.specs.declared.ReadAnswer.the-variants.{None}
+use Rattle.kinds.specs.declared.Answer.{Answer}
+use Rattle.kinds.specs.declared.Answer.the-variants.{Vacuumed}
+use Rattle.kinds.specs.Sizes.{Sizes, CELLS, FREE}
+use Rattle.kinds.specs.Versions.{withNext, valueOf, emptyVersion, versionOf, cellAt, versionAt, linkAt}
 use Rattle.rules.specs.Memory.{Mem, sizeR, sizeN, headAt, withCells}
 use Rattle.rules.specs.Chain.{ends, chained}
 use Rattle.rules.specs.Snapshot.{horizon}

@@ -7,15 +7,15 @@ use Prim.Native.Nat.{_<_, ℕ}
 use native.Mathlib.Omega.{arith}
 use lib.Dec.{eqb, leb}
 use borrow.Author.Tests.{eqb-true, not-false, ne-eqb, leb-false}
-use Rattle.rules.specs.declared.Answer.{Answer}
-use Rattle.rules.specs.declared.Answer.the-variants.{Done}
-use Rattle.rules.specs.declared.Version.{Version}
-use Rattle.rules.specs.Sizes.{Sizes}
-use Rattle.rules.specs.Lists.{has}
-use Rattle.rules.specs.Versions.{at, versionAt}
-use Rattle.rules.specs.Slots.{Slot, Rec, Write}
+use Rattle.kinds.specs.declared.Answer.{Answer}
+use Rattle.kinds.specs.declared.Answer.the-variants.{Done}
+use Rattle.kinds.specs.declared.Version.{Version}
+use Rattle.kinds.specs.Sizes.{Sizes}
+use Rattle.kinds.specs.Lists.{has}
+use Rattle.kinds.specs.Versions.{at, versionAt}
+use Rattle.kinds.specs.Slots.{Slot, Rec, Write}
 use Rattle.rules.specs.Memory.{Mem, slotAt}
-use Rattle.rules.specs.Visible.{conflict}
+use Rattle.kinds.specs.Visible.{conflict}
 use Rattle.rules.specs.Outcome.{Test, each, slotTests, Outcome, refuse}
 use Rattle.rules.specs.Commit.{commitTests, recordTests, baseTests, newTests, commitOut}
 use Rattle.rules.specs.Reachable.{All}

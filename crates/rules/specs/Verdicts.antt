@@ -3,10 +3,10 @@
 use Prim.Native.Nat.{ℕ}
 use mathlib.Core.Bool.{Bool, true, false, cond}
 use mathlib.Core.List.{List, [], _∷_, _++_}
-use mathlib.Core.Path.{_≡_, refl, sym, ap, _∙_}
+use mathlib.Core.Path.{_≡_, refl}
 use native.Mathlib.Omega.{arith}
-use Rattle.rules.specs.declared.Verdict.{Verdict}
-use Rattle.rules.specs.declared.Verdict.the-variants.{Fine, Refused}
+use Rattle.kinds.specs.declared.Verdict.{Verdict}
+use Rattle.kinds.specs.declared.Verdict.the-variants.{Fine, Refused}
 use Rattle.rules.specs.Outcome.{Test, guard, each}
 
 -- the first test that fails

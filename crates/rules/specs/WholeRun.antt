@@ -1,17 +1,16 @@
 -- Paper 01's whole run, computed from memory in which every word is 0.
 use mathlib.Core.Path.{_≡_, refl}
-use Prim.Native.Nat.{ℕ}
 use mathlib.Core.List.{List, [], _∷_}
-use mathlib.Core.Option.{Option, none, some}
+use mathlib.Core.Option.{some}
 use lib.ListN.{replicate}
-use Rattle.rules.specs.declared.ReadAnswer.the-variants.{None, Empty, Key}
-use Rattle.rules.specs.declared.Answer.the-variants.{Done, Begun, Wrote, Vacuumed, Listed, Refused}
-use Rattle.rules.specs.Sizes.{base, lastId}
-use Rattle.rules.specs.Lists.{has, keep, first, last, fold, least, greatest, from}
-use Rattle.rules.specs.Versions.{tx, at, versionOf, wordsOf, cellAt, putCell}
-use Rattle.rules.specs.Slots.{words, threes, slotOf, push, opened}
+use Rattle.kinds.specs.declared.ReadAnswer.the-variants.{Key}
+use Rattle.kinds.specs.declared.Answer.the-variants.{Done, Begun, Wrote, Vacuumed, Listed, Refused}
+use Rattle.kinds.specs.Sizes.{base, lastId}
+use Rattle.kinds.specs.Lists.{has, keep, first, last, fold, least, greatest, from}
+use Rattle.kinds.specs.Versions.{tx, at, versionOf, wordsOf, cellAt, putCell}
+use Rattle.kinds.specs.Slots.{words, threes, slotOf, push, opened}
 use Rattle.rules.specs.Memory.{Mem, mem}
-use Rattle.rules.specs.Visible.{creatorVisible, visible, conflict}
+use Rattle.kinds.specs.Visible.{creatorVisible, visible, conflict}
 use Rattle.rules.specs.Chain.{chain, look}
 use Rattle.rules.specs.Snapshot.{occupied, vacant, horizonOf}
 use Rattle.rules.specs.Outcome.{guard, each, fits, storeTests, slotTests}
@@ -21,7 +20,8 @@ use Rattle.rules.specs.Read.{own, answerAt, recorded, sightOf, ownSight,
 use Rattle.rules.specs.Write.{lockBase, prepared, headTests, writeNow, writeOut}
 use Rattle.rules.specs.Commit.{markBase, commitTests, publish, commitOut}
 use Rattle.rules.specs.Abort.{unlockBase, giveBack, abortOut}
-use Rattle.rules.specs.Vacuum.{reclaimable, relink, reports, swept, vacuumNow, vacuumOut}
+use Rattle.rules.specs.Vacuum.{relink, reports, swept, vacuumNow, vacuumOut}
+use Rattle.kinds.specs.Versions.{reclaimable}
 use Rattle.rules.specs.Lookup.{isKey, listRow, findRow, lookupEnd, rowsToRead, lookupOut, lookupAllOut}
 use Rattle.rules.specs.Run.{Call, create, begin, read, write, commit, abort, vacuum, lookup, lookupAll, Reply, looked, gave, step, run}
 use Rattle.rules.specs.Run as R

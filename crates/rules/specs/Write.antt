@@ -1,19 +1,19 @@
 -- Write (a key, or none to delete).
 use Prim.Native.Nat.{ℕ}
-use mathlib.Core.Bool.{Bool, not, _&&_, cond}
+use mathlib.Core.Bool.{not, _&&_, cond}
 use mathlib.Core.List.{List, [], _∷_, _++_}
 use mathlib.Core.Option.{Option, none, some}
 use lib.ListN.{getD, set}
 use lib.Dec.{eqb, ltb, leb}
-use Rattle.rules.specs.declared.Answer.{Answer}
-use Rattle.rules.specs.declared.Answer.the-variants.{Wrote}
-use Rattle.rules.specs.Sizes.{Sizes, FREE, WRITES}
+use Rattle.kinds.specs.declared.Answer.{Answer}
+use Rattle.kinds.specs.declared.Answer.the-variants.{Wrote}
+use Rattle.kinds.specs.Sizes.{Sizes, FREE, WRITES}
 use Rattle.rules.specs.Numbers.{rowLocked, writeConflict, noRoom, writeSetFull, damaged}
-use Rattle.rules.specs.Lists.{nonzero}
-use Rattle.rules.specs.Versions.{at, lockedFor, lockedByOther, withValue, newVersion, versionAt, linkAt, putCell, putVersion}
-use Rattle.rules.specs.Slots.{Write, write, Slot, addWrite}
+use Rattle.kinds.specs.Lists.{nonzero}
+use Rattle.kinds.specs.Versions.{at, lockedFor, lockedByOther, withValue, newVersion, versionAt, linkAt, putCell, putVersion}
+use Rattle.kinds.specs.Slots.{Write, write, Slot, addWrite}
 use Rattle.rules.specs.Memory.{Mem, mem, sizeN, free, headAt, wordsAt, slotAt, withCells}
-use Rattle.rules.specs.Visible.{visible}
+use Rattle.kinds.specs.Visible.{visible}
 use Rattle.rules.specs.Outcome.{Outcome, out, Test, test, guard, refuse, slotTests, rowTest, isCell}
 use Rattle.rules.specs.Read.{own}
 

@@ -5,12 +5,12 @@ use mathlib.Core.Option.{Option}
 use mathlib.Core.Path.{_≡_, refl}
 use mathlib.Core.Logic.{_≢_, _↔_, Iff·trans, Iff·and, inl, inr}
 use native.Mathlib.Omega.{arith}
-use Rattle.rules.specs.declared.Answer.{Answer}
-use Rattle.rules.specs.Sizes.{Sizes, WRITES}
+use Rattle.kinds.specs.declared.Answer.{Answer}
+use Rattle.kinds.specs.Sizes.{Sizes, WRITES}
 use Rattle.rules.specs.Numbers.{rowLocked, writeConflict, noRoom, writeSetFull}
 use Rattle.rules.specs.Theory.Cases.{byBool, byLe}
 use Rattle.rules.specs.Memory.{Mem, sizeN, free, headAt, slotAt}
-use Rattle.rules.specs.Visible.{visible}
+use Rattle.kinds.specs.Visible.{visible}
 use Rattle.rules.specs.Write.{writeOut}
 use Rattle.rules.specs.Exactly.{Refuses, NoneOf, inAnswer, refused-iff, refuses-past, refuses-under}
 use Rattle.rules.specs.Terms.{Sees, is-seen, LockedByOther, NoEntry, entry-or-none}

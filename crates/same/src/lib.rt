@@ -1,9 +1,9 @@
 // What the programs at the boundaries of paper 01 share: lent memory compared entry by entry, and answers put into words.
+use kinds::Answer;
+use kinds::CELL_WORDS;
+use kinds::ReadAnswer;
+use kinds::WIDTH;
 use libc::STDOUT_FILENO;
-use rules::Answer;
-use rules::CELL_WORDS;
-use rules::ReadAnswer;
-use rules::WIDTH;
 ghost use Rattle.same.specs.SameLaws.{Tells};
 
 pub fn same_words(a: &[u64], b: &[u64]) -> bool

@@ -1,14 +1,14 @@
 // Hand-made memory, for the programs that run the calls at the boundaries of paper 01: a reader's slot, full lists, long chains.
-use rules::ACTIVE;
-use rules::CELL_WORDS;
-use rules::ID;
-use rules::LOW;
-use rules::MOST_READS;
-use rules::MOST_WRITES;
-use rules::READS;
-use rules::TOP;
-use rules::WIDTH;
-use rules::WRITES;
+use kinds::ACTIVE;
+use kinds::CELL_WORDS;
+use kinds::ID;
+use kinds::LOW;
+use kinds::MOST_READS;
+use kinds::MOST_WRITES;
+use kinds::READS;
+use kinds::TOP;
+use kinds::WIDTH;
+use kinds::WRITES;
 
 // The paper's reader: "id 6, xmin 4, xmax 7, active 4 and 6".
 pub fn put_reader(slot: &mut [u64; WIDTH]) {

@@ -1,6 +1,6 @@
 -- The occupied slots, slot by slot: what a loop over the arena knows at each turn and at its end. `ss` is the arena, n how many of
 -- its entries are slots.
-use Prim.Native.Nat.{ℕ, zero, suc, _+_, _≤_, _<_, min, max}
+use Prim.Native.Nat.{ℕ, suc, _+_, _≤_, _<_, min, max}
 use mathlib.Core.Bool.{Bool, true, false, cond}
 use mathlib.Core.List.{List, [], _∷_, _++_}
 use mathlib.Core.Path.{_≡_, refl, sym, ap, _∙_}
@@ -11,8 +11,8 @@ use lib.ListN.{length, getD, take, drop, length-take, drop-of-length-le}
 use lib.Seq.{drop-cons, getD-take}
 use lib.Dec.{eqb}
 use borrow.Author.Tests.{eq-eqb, ne-eqb, eqb-true, eqb-false}
-use Rattle.rules.specs.Sizes.{ID, lastId}
-use Rattle.rules.specs.Lists.{least, greatest}
+use Rattle.kinds.specs.Sizes.{ID, lastId}
+use Rattle.kinds.specs.Lists.{least, greatest}
 use Rattle.rules.specs.Snapshot.{occupied, vacant, snapTop}
 
 byBool {ℓ} : {C : Type ℓ} (b : Bool) → (b ≡ true → C) → (b ≡ false → C) → C

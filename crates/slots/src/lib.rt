@@ -1,17 +1,17 @@
 // The snapshot rule of Begin and the horizon, over the arena of slots. An arena may be of any length: the first SLOTS entries are the
 // slots, what lies beyond them counts for nothing.
-use rules::ID;
-use rules::LAST_ID;
-use rules::LOW;
-use rules::SLOTS;
-use rules::WIDTH;
+use kinds::ID;
+use kinds::LAST_ID;
+use kinds::LOW;
+use kinds::SLOTS;
+use kinds::WIDTH;
 ghost use mathlib.Core.Path.{_≡_};
 ghost use mathlib.Core.List.{[], _∷_};
 ghost use Prim.Native.Nat.{min, max, _≤_, _<_};
 ghost use lib.ListN.{length, take};
-ghost use Rattle.rules.specs.Sizes.{base};
-ghost use Rattle.rules.specs.Sizes as words;
-ghost use Rattle.rules.specs.Lists.{least, greatest};
+ghost use Rattle.kinds.specs.Sizes.{base};
+ghost use Rattle.kinds.specs.Sizes as words;
+ghost use Rattle.kinds.specs.Lists.{least, greatest};
 ghost use Rattle.rules.specs.Snapshot.{occupied, vacant, snapLow, snapTop, horizonOf};
 ghost use Rattle.slots.specs.OccupiedLaws.{topOver};
 

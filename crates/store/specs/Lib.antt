@@ -1,3 +1,1 @@
-pub mod CreateLaws
-pub mod BeginLaws
 pub mod Tested

@@ -1,12 +1,12 @@
 -- A call whose first tests refuse it, and one whose first tests are fine.
 use Prim.Native.Nat.{ℕ}
-use mathlib.Core.List.{List, []}
+use mathlib.Core.List.{List}
 use mathlib.Core.Path.{_≡_, refl, sym, ap, _∙_}
 use lib.Seq.{sets}
-use Rattle.rules.specs.declared.Answer.{Answer}
-use Rattle.rules.specs.Sizes.{Sizes}
+use Rattle.kinds.specs.declared.Answer.{Answer}
+use Rattle.kinds.specs.Sizes.{Sizes}
 use Rattle.rules.specs.Memory.{Mem}
-use Rattle.rules.specs.declared.Verdict.{Verdict}
+use Rattle.kinds.specs.declared.Verdict.{Verdict}
 use Rattle.rules.specs.Outcome.{Outcome, out, refuse, Test, guard}
 use Rattle.rules.specs.Verdicts.{verdict, guard-fine, guard-refused}
 

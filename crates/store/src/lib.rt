@@ -1,33 +1,20 @@
 // The public calls of the version store. Each takes any numbers and any lent memory, and one equation says what it answers and what
 // every lent word is afterwards.
-use fresh::clear_rows;
-use fresh::clear_slots;
-use fresh::free_cells;
-use fresh::start;
-use gate::BAD_SIZE;
-use gate::CLOCK_SPENT;
-use gate::NO_FREE_SLOT;
 use gate::check_slot;
 use gate::check_store;
-use gate::fits;
-use rules::Answer;
-use rules::CELL_WORDS;
-use rules::CLOCK;
-use rules::LAST_ID;
-use rules::ReadAnswer;
-use rules::SLOTS;
-use rules::TxId;
-use rules::Value;
-use rules::Verdict;
-use rules::WIDTH;
+use kinds::Answer;
+use kinds::CELL_WORDS;
+use kinds::ReadAnswer;
+use kinds::TxId;
+use kinds::Value;
+use kinds::Verdict;
+use kinds::WIDTH;
 ghost use mathlib.Core.Path.{_≡_};
 ghost use mathlib.Core.List.{[]};
 ghost use lib.ListN.{length};
 ghost use lib.Seq.{sets};
 ghost use Rattle.rules.specs.Outcome.{out};
-ghost use Rattle.rules.specs.Sizes.{base};
-ghost use Rattle.rules.specs.Versions.{given};
-ghost use Rattle.rules.specs.Memory.{mem};
+ghost use Rattle.kinds.specs.Versions.{given};
 ghost use Rattle.rules.specs.Create.{createOut};
 ghost use Rattle.rules.specs.Begin.{beginOut};
 ghost use Rattle.rules.specs.Read.{readOut};
@@ -36,8 +23,6 @@ ghost use Rattle.rules.specs.Commit.{commitOut};
 ghost use Rattle.rules.specs.Abort.{abortOut};
 ghost use Rattle.rules.specs.Vacuum.{vacuumOut};
 ghost use Rattle.rules.specs.Lookup.{lookupOut, lookupAllOut, frontOf};
-ghost use Rattle.gate.specs.FineLaws.{StoreFine};
-ghost use Rattle.store.specs.BeginLaws.{beginRest};
 ghost use Rattle.rules.specs.Lent.{memIn, memOut};
 
 // A new store of n cells and r rows: an accepted creation starts a new history.
@@ -51,49 +36,7 @@ pub fn create(
 ) -> Answer
     ensures { λ a. ⌜ out a [] (memOut meta rows cells slots) ≡ createOut (memIn meta rows cells slots) n r ⌝ }
 {
-    if !fits(meta, rows, cells, slots, r, n) {
-        return Answer::Refused {
-            number: BAD_SIZE,
-            value: 0,
-        };
-    }
-    start(meta, n, r);
-    clear_rows(rows, r);
-    free_cells(cells, n);
-    clear_slots(slots);
-    Answer::Done
-}
-
-// A slot and an id for a transaction, on a store whose sizes fit.
-fn begin_fitting(
-    meta: &mut [u64],
-    rows: &[u64],
-    cells: &[[u64; CELL_WORDS]],
-    slots: &mut [[u64; WIDTH]],
-) -> Answer
-    requires { ⌜ StoreFine (mem {z = base} (now meta) (now rows) (now cells) (now slots)) ⌝ }
-    ensures { λ a. ⌜ out a [] (memOut meta rows cells slots) ≡ beginRest (memIn meta rows cells slots) ⌝ }
-{
-    let s = slots::lowest_empty(slots);
-    if s >= SLOTS {
-        return Answer::Refused {
-            number: NO_FREE_SLOT,
-            value: 0,
-        };
-    }
-    let id = meta[CLOCK];
-    if id == LAST_ID {
-        return Answer::Refused {
-            number: CLOCK_SPENT,
-            value: 0,
-        };
-    }
-    meta[CLOCK] = id + 1;
-    opens::occupy(slots, s, id);
-    Answer::Begun {
-        slot: s as u64,
-        id: TxId(id),
-    }
+    starts::create(meta, rows, cells, slots, n, r)
 }
 
 // A new transaction: the lowest empty slot, the clock's id, the snapshot.
@@ -107,7 +50,7 @@ pub fn begin(
 {
     match check_store(meta, rows, cells, slots) {
         Verdict::Refused { number, value } => Answer::Refused { number, value },
-        Verdict::Fine => begin_fitting(meta, rows, cells, slots),
+        Verdict::Fine => starts::begin(meta, rows, cells, slots),
     }
 }
 

@@ -6,14 +6,14 @@ use mathlib.Core.Path.{_≡_, refl, sym, ap, _∙_}
 use native.Mathlib.Omega.{arith}
 use lib.ListN.{length, getD}
 use borrow.Author.Tests.{ltb-false}
-use Rattle.rules.specs.declared.Verdict.the-variants.{Fine, Refused}
-use Rattle.rules.specs.Sizes.{Sizes, base}
-use Rattle.rules.specs.Lists.{fold}
-use Rattle.rules.specs.Slots.{Write, write, threes}
+use Rattle.kinds.specs.declared.Verdict.the-variants.{Fine, Refused}
+use Rattle.kinds.specs.Sizes.{Sizes, base}
+use Rattle.kinds.specs.Lists.{fold}
+use Rattle.kinds.specs.Slots.{Write, write, threes}
 use Rattle.rules.specs.Memory.{Mem, mem, sizeN}
 use Rattle.rules.specs.Outcome.{Test, each}
 use Rattle.rules.specs.Verdicts.{verdict}
-use Rattle.rules.specs.WordLaws.{threes-step, threes-done}
+use Rattle.kinds.specs.WordLaws.{threes-step, threes-done}
 use Rattle.rules.specs.Abort.{unlockBase, news, giveBack, abortTests}
 use Rattle.rules.specs.Theory.Bridge.{BasesIn, AllCells}
 use Rattle.rules.specs.Theory.CellLaws.{HasCell}

@@ -2,22 +2,23 @@
 use arena::give_back;
 use arena::put_version;
 use arena::version_at;
-use rules::CELL_WORDS;
-use rules::CELLS;
-use rules::Cell;
-use rules::MOST_WRITES;
-use rules::TxId;
-use rules::Verdict;
-use rules::WIDTH;
-use rules::WRITES;
+use kinds::CELL_WORDS;
+use kinds::CELLS;
+use kinds::Cell;
+use kinds::DAMAGED;
+use kinds::MOST_WRITES;
+use kinds::TxId;
+use kinds::Verdict;
+use kinds::WIDTH;
+use kinds::WRITES;
 ghost use mathlib.Core.Path.{_≡_};
 ghost use mathlib.Core.List.{[], _∷_};
 ghost use Prim.Native.Nat.{min, _≤_};
 ghost use lib.ListN.{length, getD};
-ghost use Rattle.rules.specs.Sizes.{base, metaWords};
-ghost use Rattle.rules.specs.Sizes as words;
-ghost use Rattle.rules.specs.Lists.{fold};
-ghost use Rattle.rules.specs.Slots.{slotOf, write};
+ghost use Rattle.kinds.specs.Sizes.{base, metaWords};
+ghost use Rattle.kinds.specs.Sizes as words;
+ghost use Rattle.kinds.specs.Lists.{fold};
+ghost use Rattle.kinds.specs.Slots.{slotOf, write};
 ghost use Rattle.rules.specs.Outcome.{each};
 ghost use Rattle.rules.specs.Verdicts.{verdict};
 ghost use Rattle.rules.specs.Abort.{unlockBase, news, giveBack, abortTests};
@@ -25,8 +26,6 @@ ghost use Rattle.rules.specs.Theory.Bridge.{BasesIn, AllCells};
 ghost use Rattle.undo.specs.UndoLaws.{lent};
 
 // Paper 01's number for damage, the one refusal that an abort can come to after its slot.
-const DAMAGED: u64 = 15;
-
 // A count above its limit reads as the limit.
 fn at_most(x: u64, most: u64) -> u64
     ensures { λ r. ⌜ r ≡ min x most ⌝ }

@@ -1,21 +1,20 @@
 -- What is left of a vacuum once the store is tested, and its ways out.
-use Prim.Native.Nat.{ℕ, suc, _-_, _≤_, _<_}
+use Prim.Native.Nat.{ℕ, _-_, _≤_, _<_}
 use native.Mathlib.Omega.{arith}
-use mathlib.Core.Bool.{Bool, true, false, not, cond}
-use mathlib.Core.List.{List, [], _∷_, _++_}
+use mathlib.Core.List.{List, [], _∷_}
 use mathlib.Core.Logic.{_≢_}
 use mathlib.Core.Path.{_≡_, refl, sym, ap, _∙_}
 use lib.ListN.{length}
 use lib.Seq.{sets}
 use borrow.Author.Tests.{le-leb, lt-leb, lt-ltb, le-ltb}
-use Rattle.rules.specs.declared.Answer.{Answer}
-use Rattle.rules.specs.declared.Answer.the-variants.{Vacuumed}
-use Rattle.rules.specs.declared.ReadAnswer.the-variants.{None}
-use Rattle.rules.specs.declared.Version.{Version}
-use Rattle.rules.specs.Sizes.{Sizes}
+use Rattle.kinds.specs.declared.Answer.{Answer}
+use Rattle.kinds.specs.declared.Answer.the-variants.{Vacuumed}
+use Rattle.kinds.specs.declared.ReadAnswer.the-variants.{None}
+use Rattle.kinds.specs.declared.Version.{Version}
+use Rattle.kinds.specs.Sizes.{Sizes}
 use Rattle.rules.specs.Numbers.{badRow, resultFull, damaged}
-use Rattle.rules.specs.Lists.{keep, fold}
-use Rattle.rules.specs.Versions.{valueOf, versionAt}
+use Rattle.kinds.specs.Lists.{keep, fold}
+use Rattle.kinds.specs.Versions.{valueOf, versionAt}
 use Rattle.rules.specs.Memory.{Mem, sizeR, sizeN, headAt, withCells}
 use Rattle.rules.specs.Chain.{After, ends, goesOn, broken, Chain, chained, chain}
 use Rattle.rules.specs.Snapshot.{horizon}

@@ -1,15 +1,15 @@
 -- What the changes of a vacuum ask for, and what holds between them: the buffer names the cells that go, and each is a cell.
 use Prim.Native.Nat.{ℕ, _-_, _≤_, _<_}
 use native.Mathlib.Omega.{arith}
-use mathlib.Core.List.{List, [], _∷_}
+use mathlib.Core.List.{List, _∷_}
 use mathlib.Core.Logic.{_≢_}
-use mathlib.Core.Path.{_≡_, refl, sym, ap, subst, _∙_}
+use mathlib.Core.Path.{_≡_, ap, _∙_}
 use lib.ListN.{length}
 use lib.Seq.{sets, length-sets}
-use Rattle.rules.specs.declared.Version.{Version}
-use Rattle.rules.specs.Sizes.{Sizes}
-use Rattle.rules.specs.Lists.{keep, fold}
-use Rattle.rules.specs.Versions.{versionAt}
+use Rattle.kinds.specs.declared.Version.{Version}
+use Rattle.kinds.specs.Sizes.{Sizes}
+use Rattle.kinds.specs.Lists.{keep, fold}
+use Rattle.kinds.specs.Versions.{versionAt}
 use Rattle.rules.specs.Chain.{Chain, ends, chain}
 use Rattle.rules.specs.Memory.{Mem, mem}
 use Rattle.rules.specs.Abort.{giveBack}

@@ -6,14 +6,14 @@ use mathlib.Core.Path.{_≡_, sym, ap, _∙_}
 use mathlib.Core.Logic.{_≢_}
 use lib.ListN.{getD}
 use borrow.Author.Tests.{eq-eqb, ne-eqb, le-leb, lt-leb}
-use Rattle.rules.specs.declared.Verdict.{Verdict}
-use Rattle.rules.specs.declared.Verdict.the-variants.{Fine, Refused}
-use Rattle.rules.specs.Sizes.{base}
-use Rattle.rules.specs.Slots.{threes}
+use Rattle.kinds.specs.declared.Verdict.{Verdict}
+use Rattle.kinds.specs.declared.Verdict.the-variants.{Fine, Refused}
+use Rattle.kinds.specs.Sizes.{base}
+use Rattle.kinds.specs.Slots.{threes}
 use Rattle.rules.specs.Memory.{Mem, mem}
 use Rattle.rules.specs.Outcome.{Test, each, isCell}
 use Rattle.rules.specs.Verdicts.{verdict, andThen, verdict-none, verdict-each}
-use Rattle.rules.specs.WordLaws.{threes-step, threes-done}
+use Rattle.kinds.specs.WordLaws.{threes-step, threes-done}
 
 -- the arenas that a commit's tests look at; they look at no other slot, so that a whole memory is tested alike
 abbrev pub lent : List ℕ → List ℕ → List (List ℕ) → Mem base

@@ -1,40 +1,37 @@
 // The judge of a commit: every test that paper 01 has for it, in its order, and no change. Nothing is asked of the lent lengths: what is
 // not there reads as 0, as the rules read it.
 use arena::version_at;
-use rules::CELL_WORDS;
-use rules::CELLS;
-use rules::Cell;
-use rules::ID;
-use rules::MOST_READS;
-use rules::MOST_WRITES;
-use rules::READS;
-use rules::ROWS;
-use rules::TOP;
-use rules::TxId;
-use rules::Verdict;
-use rules::Version;
-use rules::WIDTH;
-use rules::WRITES;
-use rules::is_active;
+use kinds::CELL_WORDS;
+use kinds::CELLS;
+use kinds::Cell;
+use kinds::DAMAGED;
+use kinds::ID;
+use kinds::MOST_READS;
+use kinds::MOST_WRITES;
+use kinds::READ_CONFLICT;
+use kinds::READS;
+use kinds::ROWS;
+use kinds::TOP;
+use kinds::TxId;
+use kinds::Verdict;
+use kinds::Version;
+use kinds::WIDTH;
+use kinds::WRITE_CONFLICT;
+use kinds::WRITES;
+use kinds::is_active;
 ghost use mathlib.Core.Path.{_≡_};
 ghost use mathlib.Core.List.{[]};
 ghost use Prim.Native.Nat.{min};
 ghost use lib.ListN.{getD};
-ghost use Rattle.rules.specs.Sizes.{base};
-ghost use Rattle.rules.specs.Slots.{slotOf, write, rec};
-ghost use Rattle.rules.specs.Visible.{conflict};
+ghost use Rattle.kinds.specs.Sizes.{base};
+ghost use Rattle.kinds.specs.Slots.{slotOf, write, rec};
+ghost use Rattle.kinds.specs.Visible.{conflict};
 ghost use Rattle.rules.specs.Outcome.{each};
 ghost use Rattle.rules.specs.Verdicts.{verdict};
 ghost use Rattle.rules.specs.Commit.{recordTests, baseTests, newTests, commitTests};
 ghost use Rattle.validate.specs.TestLaws.{lent, sized};
 
 // Paper 01's numbers for the refusals that a commit can come to.
-const WRITE_CONFLICT: u64 = 8;
-
-const READ_CONFLICT: u64 = 9;
-
-const DAMAGED: u64 = 15;
-
 // A count above its limit reads as the limit.
 fn at_most(x: u64, most: u64) -> u64
     ensures { λ r. ⌜ r ≡ min x most ⌝ }

@@ -1,17 +1,16 @@
 -- The tests of a row's head, one by one: what a write knows where it stops and where it goes on.
 use Prim.Native.Nat.{ℕ, _≤_, _<_}
 use mathlib.Core.Bool.{true, false}
-use mathlib.Core.Path.{_≡_, refl, sym, ap}
+use mathlib.Core.Path.{_≡_}
 use mathlib.Core.Logic.{_≢_}
 use borrow.Author.Tests.{eq-eqb, ne-eqb, lt-ltb, le-ltb}
-use Rattle.rules.specs.declared.Version.{Version}
-use Rattle.rules.specs.declared.Verdict.the-variants.{Fine, Refused}
-use Rattle.rules.specs.Sizes.{Sizes}
+use Rattle.kinds.specs.declared.Verdict.the-variants.{Fine, Refused}
+use Rattle.kinds.specs.Sizes.{Sizes}
 use Rattle.rules.specs.Numbers.{rowLocked, writeConflict, damaged}
-use Rattle.rules.specs.Versions.{versionAt, lockedByOther}
-use Rattle.rules.specs.Slots.{Slot}
+use Rattle.kinds.specs.Versions.{versionAt, lockedByOther}
+use Rattle.kinds.specs.Slots.{Slot}
 use Rattle.rules.specs.Memory.{Mem, sizeN}
-use Rattle.rules.specs.Visible.{visible}
+use Rattle.kinds.specs.Visible.{visible}
 use Rattle.rules.specs.Verdicts.{verdict}
 use Rattle.rules.specs.Write.{headTests}
 

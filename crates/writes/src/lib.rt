@@ -1,38 +1,33 @@
 // A write: its tests on the row's head and on room, and what it stores.
-use rules::CELL_WORDS;
-use rules::CELLS;
-use rules::Cell;
-use rules::FREE;
-use rules::MOST_WRITES;
-use rules::TxId;
-use rules::Value;
-use rules::Verdict;
-use rules::Version;
-use rules::WIDTH;
-use rules::WRITES;
+use kinds::CELL_WORDS;
+use kinds::CELLS;
+use kinds::Cell;
+use kinds::DAMAGED;
+use kinds::FREE;
+use kinds::MOST_WRITES;
+use kinds::NO_ROOM;
+use kinds::ROW_LOCKED;
+use kinds::TxId;
+use kinds::Value;
+use kinds::Verdict;
+use kinds::Version;
+use kinds::WIDTH;
+use kinds::WRITE_CONFLICT;
+use kinds::WRITE_SET_FULL;
+use kinds::WRITES;
 ghost use mathlib.Core.Path.{_≡_};
 ghost use mathlib.Core.List.{[]};
 ghost use Prim.Native.Nat.{_<_, _≤_};
 ghost use lib.ListN.{length, getD, set};
-ghost use Rattle.rules.specs.Sizes.{base, metaWords};
-ghost use Rattle.rules.specs.Sizes as words;
-ghost use Rattle.rules.specs.Versions.{given, newVersion, withValue, versionAt, linkAt, putCell, putVersion};
-ghost use Rattle.rules.specs.Slots.{slotOf, write, addWrite};
+ghost use Rattle.kinds.specs.Sizes.{base, metaWords};
+ghost use Rattle.kinds.specs.Sizes as words;
+ghost use Rattle.kinds.specs.Versions.{given, newVersion, withValue, versionAt, linkAt, putCell, putVersion};
+ghost use Rattle.kinds.specs.Slots.{slotOf, write, addWrite};
 ghost use Rattle.rules.specs.Memory.{mem};
 ghost use Rattle.rules.specs.Write.{lockBase, headTests};
 ghost use Rattle.rules.specs.Verdicts.{verdict};
 ghost use Rattle.rules.specs.Theory.CellLaws.{HasCell};
 ghost use Rattle.writes.specs.Room.{roomTests};
-
-const ROW_LOCKED: u64 = 7;
-
-const WRITE_CONFLICT: u64 = 8;
-
-const NO_ROOM: u64 = 11;
-
-const WRITE_SET_FULL: u64 = 12;
-
-const DAMAGED: u64 = 15;
 
 // A saved word; 0 where the header is too short to hold it.
 fn saved(meta: &[u64], i: usize) -> u64

@@ -6,41 +6,28 @@ use Rattle.answers.specs.Laws.{laid-length, laid-then, field-fits, list-
 use borrow.Author.Needs.{needs}
 use Rattle.answers.proofs.counted.Statement.{statement}
 use Rattle.answers.proofs.counted.Tie as tie
-use Rattle.answers.proofs.counted.Reads as reads
-use Rattle.answers.proofs.counted.Lts as lts
-use Rattle.answers.proofs.put_bytes.Reads as put-bytes-reads
-use Rattle.answers.proofs.put_field.Reads as put-field-reads
-use Rattle.answers.proofs.put_fields.Reads as put-fields-reads
 
--- src/lib.rt:67:32
 slice-aggregate-put-bytes : tie.Need-slice-aggregate-put-bytes
 slice-aggregate-put-bytes c = search needs
 
--- src/lib.rt:67:9
 put-bytes-requires : tie.Need-put-bytes-requires
 put-bytes-requires c κs = search needs
 
--- src/lib.rt:68:9
 put-field-requires : tie.Need-put-field-requires
 put-field-requires c κs = search needs
 
--- src/lib.rt:69:9
 put-fields-requires : tie.Need-put-fields-requires
 put-fields-requires c κs = omega (arith, field-fits _ (c .before .before .before .put-field .ensures), c .before .before .before .before .before .before .before .put-bytes .ensures .past, laid-length (c .before .before .before .before .before .before .before .put-bytes .ensures), laid-length (c .before .before .before .put-field .ensures))
 
--- src/lib.rt:70:23
 slice-aggregate-put-bytes-2 : tie.Need-slice-aggregate-put-bytes-2
 slice-aggregate-put-bytes-2 c = search needs
 
--- src/lib.rt:70:5
 put-bytes-requires-2 : tie.Need-put-bytes-requires-2
 put-bytes-requires-2 c κs = omega (arith, list-fits (c .before .before .before .before .before .before .before .before .before .before .before .before .before .before .before .before .before .args .ns .now) (c .before .before .before .before .put-fields .ensures), field-fits _ (c .before .before .before .before .before .before .before .before .put-field .ensures), c .before .before .before .before .before .before .before .before .before .before .before .before .put-bytes .ensures .past, laid-length (c .before .before .before .before .before .before .before .before .before .before .before .before .put-bytes .ensures), laid-length (c .before .before .before .before .before .before .before .before .put-field .ensures), laid-length (c .before .before .before .before .put-fields .ensures))
 
--- src/lib.rt:63:1
 same-length : tie.Need-same-length
 same-length c = search needs
 
--- src/lib.rt:63:1
 returns : tie.Need-returns
 unfolding fields
 returns c = answered (length (c .before .before .before .before .before .before .before .before .before .before .before .before .before .before .before .before .before .before .before .before .args .ns .now) ∷ c .before .before .before .before .before .before .before .before .before .before .before .before .before .before .before .before .before .before .before .before .args .ns .now) (c .before .before .before .before .before .before .before .before .before .before .before .before .before .before .before .put-bytes .ensures) (laid-then (c .before .before .before .before .before .before .before .before .before .before .before .put-field .ensures) (c .before .before .before .before .before .before .before .put-fields .ensures)) (c .before .before .put-bytes2 .ensures)

@@ -2,23 +2,16 @@ use Rattle.answers.specs.Answers.{answer, fields}
 use borrow.Author.Needs.{needs}
 use Rattle.answers.proofs.none.Statement.{statement}
 use Rattle.answers.proofs.none.Tie as tie
-use Rattle.answers.proofs.none.Reads as reads
-use Rattle.answers.proofs.none.Lts as lts
-use Rattle.answers.proofs.put_bytes.Reads as put-bytes-reads
 
--- src/lib.rt:77:24
 slice-aggregate-put-bytes : tie.Need-slice-aggregate-put-bytes
 slice-aggregate-put-bytes c = search needs
 
--- src/lib.rt:77:5
 put-bytes-requires : tie.Need-put-bytes-requires
 put-bytes-requires c κs = search needs
 
--- src/lib.rt:73:1
 same-length : tie.Need-same-length
 same-length c = search needs
 
--- src/lib.rt:73:1
 returns : tie.Need-returns
 unfolding answer fields
 returns c = c .before .before .put-bytes .ensures

@@ -4,27 +4,19 @@ use Rattle.answers.specs.Laws.{laid-then, laid-byte, laid-length}
 use borrow.Author.Needs.{needs}
 use Rattle.answers.proofs.put_field.Statement.{statement}
 use Rattle.answers.proofs.put_field.Tie as tie
-use Rattle.answers.proofs.put_field.Reads as reads
-use Rattle.answers.proofs.put_field.Lts as lts
-use Rattle.digits.proofs.put.Reads as put-reads
 
--- src/lib.rt:27:5
 slice-write-buf : tie.Need-slice-write-buf
 slice-write-buf c = search needs
 
--- src/lib.rt:28:22
 add-put : tie.Need-add-put
 add-put c = search needs
 
--- src/lib.rt:28:5
 put-requires : tie.Need-put-requires
 put-requires c κs = simp length-set (omega arith)
 
--- src/lib.rt:23:1
 same-length : tie.Need-same-length
 same-length c = laid-length (laid-then (laid-byte (c .before .before .before .before .before .args .buf .now) (c .before .before .before .before .before .args .at) 44) (c .before .before .put .ensures))
 
--- src/lib.rt:23:1
 returns : tie.Need-returns
 returns c = laid-then (laid-byte (c .before .before .before .before .before .args .buf .now) (c .before .before .before .before .before .args .at) 44) (c .before .before .put .ensures)
 

@@ -8,9 +8,6 @@ use Rattle.digits.specs.Numbers.{Laid}
 use Rattle.answers.specs.Laws.{laid-none, laid-then, laid-as, laid-length, field-fits, fields-none, fields-more, fields-all}
 use Rattle.answers.proofs.put_fields.Statement.{statement}
 use Rattle.answers.proofs.put_fields.Tie as tie
-use Rattle.answers.proofs.put_fields.Reads as reads
-use Rattle.answers.proofs.put_fields.Lts as lts
-use Rattle.answers.proofs.put_field.Reads as put-field-reads
 
 abbrev Inv-loop : tie.InvT-loop
 Inv-loop buf₀ at ns p₀ i₀ buf p i = (i ≤ length ns) × (length buf ≡ length buf₀) × (p ≤ at + span * i) × Laid buf₀ buf at p (fields (take i ns))
@@ -18,39 +15,30 @@ Inv-loop buf₀ at ns p₀ i₀ buf p i = (i ≤ length ns) × (length buf ≡ l
 abbrev μ-loop : tie.MeasureT-loop
 μ-loop buf₀ at ns p₀ i₀ buf p i = length ns - i
 
--- src/lib.rt:37:5
 loop-holds : tie.Need-loop-holds Inv-loop μ-loop
 loop-holds c = (omega arith, refl, omega arith, laid-as (laid-none (c .before .before .args .buf .now) (c .before .before .args .at)) (sym (fields-none (c .before .before .args .ns .now))))
 
--- src/lib.rt:38:31
 mul-put-field : tie.Need-mul-put-field Inv-loop μ-loop
 mul-put-field c = search needs
 
--- src/lib.rt:38:31
 shared-slice-read-put-field : tie.Need-shared-slice-read-put-field Inv-loop μ-loop
 shared-slice-read-put-field c = search needs
 
--- src/lib.rt:38:9
 put-field-requires : tie.Need-put-field-requires Inv-loop μ-loop
 put-field-requires c κs = omega arith
 
--- src/lib.rt:39:9
 add-i : tie.Need-add-i Inv-loop μ-loop
 add-i c = omega arith
 
--- src/lib.rt:37:5
 loop-less : tie.Need-loop-less Inv-loop μ-loop
 loop-less c = omega arith
 
--- src/lib.rt:37:5
 loop-again : tie.Need-loop-again Inv-loop μ-loop
 loop-again c = (omega arith, laid-length (c .before .before .put-field .ensures) ∙ c .before .before .before .before .before .before .loop .inv .1, omega (arith, field-fits _ (c .before .before .put-field .ensures)), laid-as (laid-then (c .before .before .before .before .before .before .loop .inv .3) (c .before .before .put-field .ensures)) (fields-more (c .before .before .before .before .before .before .before .before .before .args .ns .now) (c .before .before .before .before .before .before .loop .i) (c .before .before .before .before .before .loop-test .taken)))
 
--- src/lib.rt:31:1
 same-length : tie.Need-same-length Inv-loop μ-loop
 same-length c = c .before .loop .inv .1
 
--- src/lib.rt:31:1
 returns : tie.Need-returns Inv-loop μ-loop
 returns c = laid-as (c .before .loop .inv .3) (fields-all (c .before .before .before .before .args .ns .now) (c .before .loop .i) (c .loop-test .left))
 

@@ -1,11 +1,8 @@
 use mathlib.Core.Path.{refl}
-use Rattle.rules.specs.Versions.{wordsOf}
+use Rattle.kinds.specs.Versions.{wordsOf}
 use Rattle.arena.proofs.packed.Statement.{statement}
 use Rattle.arena.proofs.packed.Tie as tie
-use Rattle.arena.proofs.packed.Reads as reads
-use Rattle.arena.proofs.packed.Lts as lts
 
--- src/lib.rt:36:1
 returns : tie.Need-returns
 unfolding wordsOf
 returns c = refl

@@ -2,7 +2,7 @@
 -- than the steps taken, so the count fits. The measure is what is left of the limit.
 use Rattle.chains.specs.Tallies.{dead, tally, tally-end, tally-limit, tally-broken, tally-next, bit-le}
 use Rattle.rules.specs.Chain.{chain}
-use Rattle.rules.specs.Versions.{versionAt}
+use Rattle.kinds.specs.Versions.{versionAt}
 use borrow.Author.Needs.{needs}
 use native.Mathlib.Omega.{arith}
 use mathlib.Core.Path.{_≡_, refl, sym, _∙_}

@@ -1,6 +1,6 @@
 -- The version read is the version put back, with another next.
-use Rattle.rules.specs.Versions.{withNext, putVersion}
-use Rattle.rules.specs.declared.Version.{Version}
+use Rattle.kinds.specs.Versions.{withNext, putVersion}
+use Rattle.kinds.specs.declared.Version.{Version}
 use mathlib.Core.Path.{ap, _∙_}
 use borrow.Author.Needs.{needs}
 use Rattle.chains.proofs.link.Statement.{statement}

@@ -5,7 +5,7 @@ use Rattle.chains.specs.Lines.{line}
 use lib.ListN.{length}
 use borrow.Author.Needs.{needs}
 use native.Mathlib.Omega.{arith}
-use mathlib.Core.Path.{refl, sym, _∙_}
+use mathlib.Core.Path.{_∙_}
 use Rattle.chains.proofs.relink.Statement.{statement}
 use Rattle.chains.proofs.relink.Tie as tie
 

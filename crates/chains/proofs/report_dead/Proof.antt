@@ -3,11 +3,11 @@
 use Rattle.chains.specs.Reporting.{Reporting, reporting-start, reporting-room, reporting-next, reporting-end}
 use Rattle.chains.specs.Linking.{line-less}
 use Rattle.chains.specs.Lines.{line}
-use Rattle.rules.specs.Vacuum.{reclaimable}
+use Rattle.kinds.specs.Versions.{reclaimable}
 use lib.ListN.{length}
 use borrow.Author.Needs.{needs}
 use native.Mathlib.Omega.{arith}
-use mathlib.Core.Path.{_≡_, refl, sym, ap, _∙_}
+use mathlib.Core.Path.{sym, ap, _∙_}
 use Rattle.chains.proofs.report_dead.Statement.{statement}
 use Rattle.chains.proofs.report_dead.Tie as tie
 

@@ -4,22 +4,16 @@ use Rattle.digits.specs.Laws.{leads-none, leads-one, leads-more}
 use borrow.Author.Needs.{needs}
 use Rattle.digits.proofs.leads.Statement.{statement}
 use Rattle.digits.proofs.leads.Tie as tie
-use Rattle.digits.proofs.leads.Reads as reads
-use Rattle.digits.proofs.leads.Lts as lts
 
--- src/lib.rt:24:9
 returns : tie.Need-returns
 returns c = sym (leads-none (c .before .args .s .now) (c .if1 .taken))
 
--- src/lib.rt:27:9
 returns-2 : tie.Need-returns-2
 returns-2 c = sym (leads-one (c .before .before .args .s .now) (c .if2 .taken))
 
--- src/lib.rt:29:5
 shared-slice-read-result : tie.Need-shared-slice-read-result
 shared-slice-read-result c = search needs
 
--- src/lib.rt:20:1
 returns-3 : tie.Need-returns-3
 returns-3 c = sym (leads-more (c .before .before .before .args .s .now) (omega arith))
 

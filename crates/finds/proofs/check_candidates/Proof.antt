@@ -1,16 +1,14 @@
 use native.Mathlib.Omega.{arith}
-use mathlib.Core.Path.{_≡_, refl, sym, ap, _∙_}
+use mathlib.Core.Path.{_≡_, refl, sym, _∙_}
 use borrow.Author.Needs.{needs}
 use Rattle.finds.specs.Marks.{candidateTest, drop-next, drop-end, tests-next, tests-stop, tests-end}
 use borrow.Author.Tests.{le-leb, lt-leb}
 use Rattle.rules.specs.Verdicts.{verdict}
 use Rattle.rules.specs.Outcome.{each}
 use lib.ListN.{length, drop}
-use Prim.Native.Nat.{ℕ, _≤_, _-_}
+use Prim.Native.Nat.{_≤_, _-_}
 use Rattle.finds.proofs.check_candidates.Statement.{statement}
 use Rattle.finds.proofs.check_candidates.Tie as tie
-use Rattle.finds.proofs.check_candidates.Reads as reads
-use Rattle.finds.proofs.check_candidates.Lts as lts
 
 abbrev Inv-loop : tie.InvT-loop
 Inv-loop candidates r i₀ i = (i ≤ length candidates) × (verdict (each (candidateTest r) (drop i candidates)) ≡ verdict (each (candidateTest r) candidates))
@@ -18,43 +16,33 @@ Inv-loop candidates r i₀ i = (i ≤ length candidates) × (verdict (each (cand
 abbrev μ-loop : tie.MeasureT-loop
 μ-loop candidates r i₀ i = length candidates - i
 
--- src/lib.rt:71:5
 loop-holds : tie.Need-loop-holds Inv-loop μ-loop
 loop-holds c = (omega arith, refl)
 
--- src/lib.rt:72:17
 mul-if1 : tie.Need-mul-if1 Inv-loop μ-loop
 mul-if1 c = search needs
 
--- src/lib.rt:72:17
 shared-slice-read-if1 : tie.Need-shared-slice-read-if1 Inv-loop μ-loop
 shared-slice-read-if1 c = search needs
 
--- src/lib.rt:75:24
 mul-t8 : tie.Need-mul-t8 Inv-loop μ-loop
 mul-t8 c = search needs
 
--- src/lib.rt:75:24
 shared-slice-read-t10 : tie.Need-shared-slice-read-t10 Inv-loop μ-loop
 shared-slice-read-t10 c = search needs
 
--- src/lib.rt:73:13
 returns : tie.Need-returns Inv-loop μ-loop
 returns c = sym (tests-stop _ _ _ (drop-next _ _ (c .before .before .before .loop-test .taken)) (candidateTest (c .before .before .before .before .before .args .r)) _ _ _ refl (le-leb _ _ (c .before .if1 .taken))) ∙ c .before .before .before .before .loop .inv .1
 
--- src/lib.rt:78:9
 add-i : tie.Need-add-i Inv-loop μ-loop
 add-i c = omega arith
 
--- src/lib.rt:71:5
 loop-less : tie.Need-loop-less Inv-loop μ-loop
 loop-less c = omega arith
 
--- src/lib.rt:71:5
 loop-again : tie.Need-loop-again Inv-loop μ-loop
 loop-again c = (omega arith, sym (tests-next _ _ _ (drop-next _ _ (c .before .before .loop-test .taken)) (candidateTest (c .before .before .before .before .args .r)) _ _ _ refl (lt-leb _ _ (c .if1 .left))) ∙ c .before .before .before .loop .inv .1)
 
--- src/lib.rt:67:1
 returns-2 : tie.Need-returns-2 Inv-loop μ-loop
 returns-2 c = sym (tests-end _ _ (drop-end _ _ (c .loop-test .left))) ∙ c .before .loop .inv .1
 

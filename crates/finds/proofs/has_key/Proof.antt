@@ -5,25 +5,18 @@ use Rattle.rules.specs.Read.{answerAt}
 use borrow.Author.Needs.{needs}
 use Rattle.finds.proofs.has_key.Statement.{statement}
 use Rattle.finds.proofs.has_key.Tie as tie
-use Rattle.finds.proofs.has_key.Reads as reads
-use Rattle.finds.proofs.has_key.Lts as lts
-use Rattle.arena.proofs.version_at.Reads as version-at-reads
 
--- src/lib.rt:114:9
 returns : tie.Need-returns
 unfolding answerAt isKey
 returns c = rw (eq-eqb _ _ (c .if1 .taken))
 
--- src/lib.rt:116:9
 version-at-requires : tie.Need-version-at-requires
 version-at-requires c κs = search needs
 
--- src/lib.rt:118:9
 returns-2 : tie.Need-returns-2
 unfolding answerAt isKey
 returns-2 c = rw (ne-eqb _ _ (c .before .before .before .if1 .left), sym (c .before .before .version-at .ensures), eq-eqb _ _ (c .if2 .taken))
 
--- src/lib.rt:110:1
 returns-3 : tie.Need-returns-3
 unfolding answerAt isKey
 returns-3 c = rw (ne-eqb _ _ (c .before .before .before .before .if1 .left), sym (c .before .before .before .version-at .ensures), ne-eqb _ _ (c .before .if2 .left))

@@ -1,53 +1,38 @@
-use mathlib.Core.Path.{_≡_, refl, sym, ap, _∙_}
-use Rattle.rules.specs.Versions.{versionAt}
+use mathlib.Core.Path.{sym, ap, _∙_}
+use Rattle.kinds.specs.Versions.{versionAt}
 use Rattle.reads.specs.Sights.{told, fresh-room}
 use Rattle.finds.specs.Sweep.{step-blocked, step-known, step-fresh}
 use borrow.Author.Needs.{needs}
 use Rattle.finds.proofs.step.Statement.{statement}
 use Rattle.finds.proofs.step.Tie as tie
-use Rattle.finds.proofs.step.Reads as reads
-use Rattle.finds.proofs.step.Lts as lts
-use Rattle.finds.proofs.list_row.Reads as list-row-reads
-use Rattle.reads.proofs.add_record.Reads as add-record-reads
-use Rattle.reads.proofs.read_row.Reads as read-row-reads
 
--- src/lib.rt:165:11
 read-row-requires : tie.Need-read-row-requires
 read-row-requires c κs = search needs
 
--- src/lib.rt:166:26
 enum-known-number : tie.Need-enum-known-number
 enum-known-number c = search needs
 
--- src/lib.rt:167:22
 enum-known-c : tie.Need-enum-known-c
 enum-known-c c = search needs
 
--- src/lib.rt:167:28
 list-row-requires : tie.Need-list-row-requires
 list-row-requires c κs = search needs
 
--- src/lib.rt:168:24
 enum-known-cell : tie.Need-enum-known-cell
 enum-known-cell c = search needs
 
--- src/lib.rt:169:13
 add-record-requires : tie.Need-add-record-requires
 add-record-requires c κs = fresh-room (c .before .before .before .before .before .before .args .n) (versionAt (c .before .before .before .before .before .before .args .cells .now)) (c .before .before .before .before .before .before .args .head .0) (c .before .before .before .before .before .before .args .slot .now) (c .before .before .before .before .before .before .args .row) _ _ _ (ap (told (c .before .before .before .before .before .before .args .row)) (sym (c .before .before .cell .given .1)) ∙ c .before .before .before .before .read-row .ensures)
 
--- src/lib.rt:170:13
 list-row-requires-2 : tie.Need-list-row-requires-2
 list-row-requires-2 c κs = search needs
 
--- src/lib.rt:150:1
 returns : tie.Need-returns
 returns c = step-blocked _ _ _ _ _ _ _ _ _ _ _ (ap (told (c .before .before .before .before .before .args .row)) (sym (c .before .number .given .1)) ∙ c .before .before .before .read-row .ensures)
 
--- src/lib.rt:150:1
 returns-2 : tie.Need-returns-2
 returns-2 c = step-known _ _ _ _ _ _ _ _ _ _ _ (c .list-row .ensures) (ap (told (c .before .before .before .before .before .before .before .args .row)) (sym (c .before .before .before .c .given .1)) ∙ c .before .before .before .before .before .read-row .ensures)
 
--- src/lib.rt:150:1
 returns-3 : tie.Need-returns-3
 returns-3 c = step-fresh _ _ _ _ _ _ _ _ _ _ _ _ _ (c .before .before .add-record .ensures) (c .list-row2 .ensures) (ap (told (c .before .before .before .before .before .before .before .before .before .args .row)) (sym (c .before .before .before .before .before .cell .given .1)) ∙ c .before .before .before .before .before .before .before .read-row .ensures)
 

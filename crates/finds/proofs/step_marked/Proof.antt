@@ -1,29 +1,20 @@
-use mathlib.Core.Path.{_≡_, refl, sym, ap, _∙_}
 use borrow.Author.Tests.{eq-eqb, ne-eqb}
 use borrow.Author.Needs.{needs}
 use Rattle.finds.proofs.step_marked.Statement.{statement}
 use Rattle.finds.proofs.step_marked.Tie as tie
-use Rattle.finds.proofs.step_marked.Reads as reads
-use Rattle.finds.proofs.step_marked.Lts as lts
-use Rattle.finds.proofs.step.Reads as step-reads
 
--- src/lib.rt:196:9
 returns : tie.Need-returns
 returns c = rw (eq-eqb _ _ (c .if1 .taken))
 
--- src/lib.rt:198:57
 mul-t15 : tie.Need-mul-t15
 mul-t15 c = search needs
 
--- src/lib.rt:198:57
 shared-slice-read-t17 : tie.Need-shared-slice-read-t17
 shared-slice-read-t17 c = search needs
 
--- src/lib.rt:198:5
 step-requires : tie.Need-step-requires
 step-requires c κs = search needs
 
--- src/lib.rt:176:1
 returns-2 : tie.Need-returns-2
 returns-2 c = rw (ne-eqb _ _ (c .before .before .before .before .if1 .left)) (c .step .ensures)
 

@@ -5,7 +5,7 @@ use lib.ListN.{length, length-set, replicate}
 use borrow.Author.Needs.{needs}
 use native.Mathlib.Omega.{arith}
 use mathlib.Core.Path.{_≡_, refl, sym, _∙_, ap}
-use Prim.Native.Nat.{_+_, _-_, _≤_, min}
+use Prim.Native.Nat.{_-_, _≤_, min}
 use Rattle.fresh.proofs.clear_rows.Statement.{statement}
 use Rattle.fresh.proofs.clear_rows.Tie as tie
 

@@ -1,11 +1,11 @@
 -- The loop's invariant: what is left to store, stored at i, gives what the whole gives.
 use Rattle.fresh.specs.StoreLaws.{clearedFrom, cleared-all, cleared-turn, cleared-end}
-use Rattle.rules.specs.Sizes.{base}
+use Rattle.kinds.specs.Sizes.{base}
 use lib.ListN.{length, length-set}
 use borrow.Author.Needs.{needs}
 use native.Mathlib.Omega.{arith}
 use mathlib.Core.Path.{_≡_, refl, sym, _∙_}
-use Prim.Native.Nat.{_+_, _-_, _≤_, min}
+use Prim.Native.Nat.{_-_, _≤_, min}
 use Rattle.fresh.proofs.clear_slots.Statement.{statement}
 use Rattle.fresh.proofs.clear_slots.Tie as tie
 

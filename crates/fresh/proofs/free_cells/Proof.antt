@@ -1,6 +1,6 @@
 -- The loop's invariant: the cells left, stored at i, give what the whole list gives. `link_after` gives each cell's link.
 use Rattle.fresh.specs.StoreLaws.{fresh-turn, fresh-end}
-use Rattle.rules.specs.Versions.{wordsOf}
+use Rattle.kinds.specs.Versions.{wordsOf}
 use Rattle.rules.specs.Create.{freshCells}
 use lib.Seq.{sets}
 use lib.ListN.{length, length-set}

@@ -1,13 +1,13 @@
 -- The loop's invariant: the words left, stored at i, give what the four give.
 use Rattle.fresh.specs.StoreLaws.{list-turn, list-end}
-use Rattle.rules.specs.Sizes.{metaWords}
+use Rattle.kinds.specs.Sizes.{metaWords}
 use mathlib.Core.List.{[], _∷_}
 use lib.Seq.{sets}
 use lib.ListN.{length, length-set, drop}
 use borrow.Author.Needs.{needs}
 use native.Mathlib.Omega.{arith}
 use mathlib.Core.Path.{_≡_, refl, sym, _∙_}
-use Prim.Native.Nat.{_+_, _-_, _≤_, min}
+use Prim.Native.Nat.{_-_, _≤_, min}
 use Rattle.fresh.proofs.start.Statement.{statement}
 use Rattle.fresh.proofs.start.Tie as tie
 

@@ -1,12 +1,9 @@
-use borrow.Author.Needs.{needs}
 use native.Mathlib.Omega.{arith}
 use lib.ListN.{length}
 use Prim.Native.Nat.{_-_, _≤_}
 use Rattle.lines.specs.Fields.{Passed, passed-none, passed-more, cut-comma, cut-end}
 use Rattle.lines.proofs.comma.Statement.{statement}
 use Rattle.lines.proofs.comma.Tie as tie
-use Rattle.lines.proofs.comma.Reads as reads
-use Rattle.lines.proofs.comma.Lts as lts
 
 abbrev Inv-loop : tie.InvT-loop
 Inv-loop s from i₀ i = (from ≤ i) × (i ≤ length s) × Passed s from i
@@ -14,31 +11,24 @@ Inv-loop s from i₀ i = (from ≤ i) × (i ≤ length s) × Passed s from i
 abbrev μ-loop : tie.MeasureT-loop
 μ-loop s from i₀ i = length s - i
 
--- src/lib.rt:81:5
 loop-holds : tie.Need-loop-holds Inv-loop μ-loop
 loop-holds c = (omega arith, c .pre, passed-none (c .args .s .now) (c .args .from))
 
--- src/lib.rt:82:12
 shared-slice-read-if1 : tie.Need-shared-slice-read-if1 Inv-loop μ-loop
 shared-slice-read-if1 c = omega arith
 
--- src/lib.rt:83:13
 returns : tie.Need-returns Inv-loop μ-loop
 returns c = cut-comma (c .before .before .before .before .args .s .now) (c .before .before .before .before .args .from) (c .before .before .before .loop .i) (c .before .before .before .loop .inv .0) (c .before .before .loop-test .taken) (c .if1 .taken) (c .before .before .before .loop .inv .2)
 
--- src/lib.rt:85:9
 add-i : tie.Need-add-i Inv-loop μ-loop
 add-i c = omega arith
 
--- src/lib.rt:81:5
 loop-less : tie.Need-loop-less Inv-loop μ-loop
 loop-less c = omega arith
 
--- src/lib.rt:81:5
 loop-again : tie.Need-loop-again Inv-loop μ-loop
 loop-again c = (omega arith, omega arith, passed-more (c .before .before .before .before .args .s .now) (c .before .before .before .before .args .from) (c .before .before .before .loop .i) (c .before .before .before .loop .inv .0) (c .before .before .loop-test .taken) (c .if1 .left) (c .before .before .before .loop .inv .2))
 
--- src/lib.rt:76:1
 returns-2 : tie.Need-returns-2 Inv-loop μ-loop
 returns-2 c = cut-end (c .before .before .args .s .now) (c .before .before .args .from) (c .before .loop .i) (c .before .loop .inv .0) (c .before .loop .inv .1) (c .loop-test .left) (c .before .loop .inv .2)
 

@@ -2,47 +2,34 @@ use Rattle.lines.specs.Fields.{step-end, pair-first, pair-second, pair-i
 use borrow.Author.Needs.{needs}
 use Rattle.lines.proofs.pair_at.Statement.{statement}
 use Rattle.lines.proofs.pair_at.Tie as tie
-use Rattle.lines.proofs.pair_at.Reads as reads
-use Rattle.lines.proofs.pair_at.Lts as lts
-use Rattle.lines.proofs.number_at.Reads as number-at-reads
 
--- src/lib.rt:110:11
 number-at-requires : tie.Need-number-at-requires
 number-at-requires c κs = search needs
 
--- src/lib.rt:111:27
 enum-told : tie.Need-enum-told
 enum-told c = search needs
 
--- src/lib.rt:112:28
 enum-known-a : tie.Need-enum-known-a
 enum-known-a c = search needs
 
--- src/lib.rt:112:49
 number-at-requires-2 : tie.Need-number-at-requires-2
 number-at-requires-2 c κs = step-end (c .before .before .before .before .before .args .s .now) (c .before .before .before .before .before .args .at) _ _ _ (c .before .before .before .number-at .ensures) (c .before .a .given .1)
 
--- src/lib.rt:113:31
 enum-told-2 : tie.Need-enum-told-2
 enum-told-2 c = search needs
 
--- src/lib.rt:114:32
 enum-known-b : tie.Need-enum-known-b
 enum-known-b c = search needs
 
--- src/lib.rt:116:21
 returns : tie.Need-returns
 returns c = pair-is (c .before .before .before .before .before .before .before .before .before .before .args .s .now) (c .before .before .before .before .before .before .before .before .before .before .args .at) _ (c .before .before .before .before .before .before .before .before .number-at .ensures) _ _ (c .before .before .before .before .before .before .a .given .1) _ (c .before .before .before .before .number-at2 .ensures) _ _ (c .before .before .b .given .1) (c .if1 .taken)
 
--- src/lib.rt:106:1
 returns-2 : tie.Need-returns-2
 returns-2 c = pair-first (c .before .before .before .before .args .s .now) (c .before .before .before .before .args .at) _ (c .before .before .number-at .ensures) (c .enum-told .given .1)
 
--- src/lib.rt:106:1
 returns-3 : tie.Need-returns-3
 returns-3 c = pair-second (c .before .before .before .before .before .before .before .before .args .s .now) (c .before .before .before .before .before .before .before .before .args .at) _ (c .before .before .before .before .before .before .number-at .ensures) _ _ (c .before .before .before .before .a .given .1) _ (c .before .before .number-at2 .ensures) (c .enum-told2 .given .1)
 
--- src/lib.rt:106:1
 returns-4 : tie.Need-returns-4
 returns-4 c = pair-more (c .before .before .before .before .before .before .before .before .before .before .args .s .now) (c .before .before .before .before .before .before .before .before .before .before .args .at) _ (c .before .before .before .before .before .before .before .before .number-at .ensures) _ _ (c .before .before .before .before .before .before .a .given .1) _ (c .before .before .before .before .number-at2 .ensures) _ _ (c .before .before .b .given .1) (c .if1 .left)
 

@@ -1,4 +1,3 @@
-use borrow.Author.Needs.{needs}
 use native.Mathlib.Omega.{arith}
 use mathlib.Core.Path.{_≡_, refl, sym, _∙_}
 use lib.ListN.{length, drop}
@@ -7,8 +6,6 @@ use Rattle.lines.specs.Words.{same-lengths, same-done, same-differ, same
 use Rattle.lines.specs.Lines as Lines
 use Rattle.lines.proofs.same.Statement.{statement}
 use Rattle.lines.proofs.same.Tie as tie
-use Rattle.lines.proofs.same.Reads as reads
-use Rattle.lines.proofs.same.Lts as lts
 
 abbrev Inv-loop : tie.InvT-loop
 Inv-loop s w i₀ i = (i ≤ length s) × (length s ≡ length w) × (Lines.same (drop i s) (drop i w) ≡ Lines.same s w)
@@ -16,39 +13,30 @@ Inv-loop s w i₀ i = (i ≤ length s) × (length s ≡ length w) × (Lines.same
 abbrev μ-loop : tie.MeasureT-loop
 μ-loop s w i₀ i = length s - i
 
--- src/lib.rt:63:9
 returns : tie.Need-returns Inv-loop μ-loop
 returns c = sym (same-lengths (c .before .args .s .now) (c .before .args .w .now) (c .if1 .taken))
 
--- src/lib.rt:66:5
 loop-holds : tie.Need-loop-holds Inv-loop μ-loop
 loop-holds c = (omega arith, omega arith, refl)
 
--- src/lib.rt:67:12
 shared-slice-read-if2 : tie.Need-shared-slice-read-if2 Inv-loop μ-loop
 shared-slice-read-if2 c = omega arith
 
--- src/lib.rt:67:20
 shared-slice-read-if2-2 : tie.Need-shared-slice-read-if2-2 Inv-loop μ-loop
 shared-slice-read-if2-2 c = omega arith
 
--- src/lib.rt:68:13
 returns-2 : tie.Need-returns-2 Inv-loop μ-loop
 returns-2 c = sym (same-differ (c .before .before .before .before .before .before .args .s .now) (c .before .before .before .before .before .before .args .w .now) (c .before .before .before .before .loop .i) (c .before .before .before .loop-test .taken) (omega arith) (c .if2 .taken)) ∙ c .before .before .before .before .loop .inv .2
 
--- src/lib.rt:70:9
 add-i : tie.Need-add-i Inv-loop μ-loop
 add-i c = omega arith
 
--- src/lib.rt:66:5
 loop-less : tie.Need-loop-less Inv-loop μ-loop
 loop-less c = omega arith
 
--- src/lib.rt:66:5
 loop-again : tie.Need-loop-again Inv-loop μ-loop
 loop-again c = (omega arith, c .before .before .before .before .loop .inv .1, sym (same-step (c .before .before .before .before .before .before .args .s .now) (c .before .before .before .before .before .before .args .w .now) (c .before .before .before .before .loop .i) (c .before .before .before .loop-test .taken) (omega arith) (c .if2 .left)) ∙ c .before .before .before .before .loop .inv .2)
 
--- src/lib.rt:59:1
 returns-3 : tie.Need-returns-3 Inv-loop μ-loop
 returns-3 c = sym (same-done (c .before .before .before .args .s .now) (c .before .before .before .args .w .now) (c .before .loop .i) (c .loop-test .left) (omega arith)) ∙ c .before .loop .inv .2
 

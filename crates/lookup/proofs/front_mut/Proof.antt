@@ -1,22 +1,17 @@
 use native.Mathlib.Omega.{arith}
-use mathlib.Core.Path.{_≡_, refl, sym, ap, _∙_}
+use mathlib.Core.Path.{sym}
 use lib.ListN.{length-take}
 use lib.Seq.{take-all}
 use borrow.Author.Needs.{needs}
 use Rattle.lookup.proofs.front_mut.Statement.{statement}
 use Rattle.lookup.proofs.front_mut.Tie as tie
-use Rattle.lookup.proofs.front_mut.Reads as reads
-use Rattle.lookup.proofs.front_mut.Lts as lts
 
--- src/lib.rt:39:9
 returns : tie.Need-returns
 returns c = sym (take-all (c .before .args .count) (c .before .args .buffer .now) (omega arith))
 
--- src/lib.rt:42:5
 slice-aggregate-result : tie.Need-slice-aggregate-result
 slice-aggregate-result c = omega (arith, length-take (c .before .before .args .count) (c .before .before .args .buffer .now))
 
--- src/lib.rt:35:1
 returns-2 : tie.Need-returns-2
 returns-2 c = search needs
 

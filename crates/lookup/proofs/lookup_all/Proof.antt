@@ -1,28 +1,19 @@
-use native.Mathlib.Omega.{arith}
-use mathlib.Core.Path.{_≡_, refl, sym, ap, _∙_}
 use Rattle.rules.specs.Memory.{mem}
 use Rattle.lookup.specs.CallLaws.{search-all}
 use Rattle.lookup.specs.LookupRest.{filled-is}
 use borrow.Author.Needs.{needs}
 use Rattle.lookup.proofs.lookup_all.Statement.{statement}
 use Rattle.lookup.proofs.lookup_all.Tie as tie
-use Rattle.lookup.proofs.lookup_all.Reads as reads
-use Rattle.lookup.proofs.lookup_all.Lts as lts
-use Rattle.lookup.proofs.search.Reads as search-reads
 
--- src/lib.rt:160:5
 search-requires : tie.Need-search-requires
 search-requires c κs = search needs
 
--- src/lib.rt:145:1
 same-length : tie.Need-same-length
 same-length c = search needs
 
--- src/lib.rt:145:1
 same-length-2 : tie.Need-same-length-2
 same-length-2 c = search needs
 
--- src/lib.rt:145:1
 returns : tie.Need-returns
 returns c = filled-is _ _ _ _ _ _ (c .before .before .before .search .ensures) (search-all (mem (c .before .before .before .before .before .before .before .before .before .before .args .meta .now) (c .before .before .before .before .before .before .before .before .before .before .args .rows .now) (c .before .before .before .before .before .before .before .before .before .before .args .cells .now) (c .before .before .before .before .before .before .before .before .before .before .args .slots .now)) (c .before .before .before .before .before .before .before .before .before .before .args .slot) (c .before .before .before .before .before .before .before .before .before .before .args .key) _ (c .before .before .before .before .before .before .before .before .before .before .pre .store .fits .fewRows))
 

@@ -1,65 +1,46 @@
-use native.Mathlib.Omega.{arith}
-use mathlib.Core.Path.{_≡_, refl, sym, ap, _∙_}
+use mathlib.Core.Path.{ap, _∙_}
 use Rattle.finds.specs.Marks.{marked}
-use Rattle.rules.specs.Lists.{fold}
+use Rattle.kinds.specs.Lists.{fold}
 use Rattle.rules.specs.Memory.{mem}
 use Rattle.lookup.specs.CallLaws.{search-rows}
 use Rattle.lookup.specs.LookupRest.{filled-is}
 use borrow.Author.Needs.{needs}
 use Rattle.lookup.proofs.lookup_rows.Statement.{statement}
 use Rattle.lookup.proofs.lookup_rows.Tie as tie
-use Rattle.lookup.proofs.lookup_rows.Reads as reads
-use Rattle.lookup.proofs.lookup_rows.Lts as lts
-use Rattle.finds.proofs.check_own.Reads as check-own-reads
-use Rattle.finds.proofs.mark_all.Reads as mark-all-reads
-use Rattle.finds.proofs.mark_own.Reads as mark-own-reads
-use Rattle.lookup.proofs.search.Reads as search-reads
 
--- src/lib.rt:116:5
 mark-all-requires : tie.Need-mark-all-requires
 mark-all-requires c κs = search needs
 
--- src/lib.rt:117:33
 mul-mark-own : tie.Need-mul-mark-own
 mul-mark-own c = search needs
 
--- src/lib.rt:117:33
 index-1-mark-own : tie.Need-index-1-mark-own
 index-1-mark-own c = search needs
 
--- src/lib.rt:117:5
 mark-own-requires : tie.Need-mark-own-requires
 mark-own-requires c κs = search needs
 
--- src/lib.rt:118:33
 mul-check-own : tie.Need-mul-check-own
 mul-check-own c = search needs
 
--- src/lib.rt:118:33
 index-1-check-own : tie.Need-index-1-check-own
 index-1-check-own c = search needs
 
--- src/lib.rt:118:44
 shared-slice-read-check-own : tie.Need-shared-slice-read-check-own
 shared-slice-read-check-own c = search needs
 
--- src/lib.rt:118:9
 check-own-requires : tie.Need-check-own-requires
 check-own-requires c κs = search needs
 
--- src/lib.rt:119:5
 search-requires : tie.Need-search-requires
 search-requires c κs = search needs
 
--- src/lib.rt:99:1
 same-length : tie.Need-same-length
 same-length c = search needs
 
--- src/lib.rt:99:1
 same-length-2 : tie.Need-same-length-2
 same-length-2 c = search needs
 
--- src/lib.rt:99:1
 returns : tie.Need-returns
 returns c = filled-is _ _ _ _ _ _ (c .before .before .before .search .ensures) (search-rows (mem (c .before .before .before .before .before .before .before .before .before .before .before .before .before .before .before .before .before .before .before .args .meta .now) (c .before .before .before .before .before .before .before .before .before .before .before .before .before .before .before .before .before .before .before .args .rows .now) (c .before .before .before .before .before .before .before .before .before .before .before .before .before .before .before .before .before .before .before .args .cells .now) (c .before .before .before .before .before .before .before .before .before .before .before .before .before .before .before .before .before .before .before .args .slots .now)) (c .before .before .before .before .before .before .before .before .before .before .before .before .before .before .before .before .before .before .before .args .slot) (c .before .before .before .before .before .before .before .before .before .before .before .before .before .before .before .before .before .before .before .args .key) _ (c .before .before .before .before .before .before .before .before .before .before .before .before .before .before .before .before .before .before .before .pre .store .fits .fewRows) (c .before .before .before .before .before .before .before .before .before .before .before .before .before .before .before .before .before .before .before .args .candidates .now) _ _ (c .before .before .before .before .before .before .before .check-own .ensures) (c .before .before .before .before .before .before .before .before .before .before .mark-own .ensures ∙ ap (fold marked _) (c .before .before .before .before .before .before .before .before .before .before .before .before .before .mark-all .ensures)))
 

@@ -1,5 +1,3 @@
-use native.Mathlib.Omega.{arith}
-use mathlib.Core.Path.{_≡_, refl, sym, ap, _∙_}
 use Rattle.rules.specs.Memory.{mem}
 use Rattle.lookup.specs.RowLaws.{zeros, zeros-long}
 use lib.ListN.{length}
@@ -7,25 +5,16 @@ use Rattle.lookup.specs.SearchLaws.{search-stopped, search-late, search-
 use borrow.Author.Needs.{needs}
 use Rattle.lookup.proofs.search.Statement.{statement}
 use Rattle.lookup.proofs.search.Tie as tie
-use Rattle.lookup.proofs.search.Reads as reads
-use Rattle.lookup.proofs.search.Lts as lts
-use Rattle.finds.proofs.scan.Reads as scan-reads
-use Rattle.lookup.proofs.fill.Reads as fill-reads
-use Rattle.lookup.proofs.width.Reads as width-reads
 
--- src/lib.rt:91:17
 fill-requires : tie.Need-fill-requires
 fill-requires c κs = search-fits (mem (c .before .before .before .before .before .before .before .before .before .before .before .before .before .before .before .before .before .args .meta .now) (c .before .before .before .before .before .before .before .before .before .before .before .before .before .before .before .before .before .args .rows .now) (c .before .before .before .before .before .before .before .before .before .before .before .before .before .before .before .before .before .args .cells .now) (c .before .before .before .before .before .before .before .before .before .before .before .before .before .before .before .before .before .args .slots .now)) (c .before .before .before .before .before .before .before .before .before .before .before .before .before .before .before .before .before .args .slot) (c .before .before .before .before .before .before .before .before .before .before .before .before .before .before .before .before .before .args .id .0) (c .before .before .before .before .before .before .before .before .before .before .before .before .before .before .before .before .before .pre) (c .before .before .before .before .before .before .before .before .before .before .before .before .width .ensures) (c .before .before .before .before .before .before .before .before .before .before .before .before .before .before .before .before .before .args .key) (length (c .before .before .before .before .before .before .before .before .before .before .before .before .before .before .before .before .before .args .results .now)) (c .before .before .before .before .before .before .before .before .before .before .before .before .before .before .before .before .before .args .marks .now) zeros zeros-long (c .before .before .before .before .before .before .before .before .before .before .before .before .before .before .before .before .before .args .late) _ _ _ (c .before .before .before .before .before .before .before .scan .ensures) _ (c .before .before .before .before .before .count .given .1)
 
--- src/lib.rt:64:1
 returns : tie.Need-returns
 returns c = search-stopped (mem (c .before .before .before .before .before .before .before .before .before .before .before .before .before .args .meta .now) (c .before .before .before .before .before .before .before .before .before .before .before .before .before .args .rows .now) (c .before .before .before .before .before .before .before .before .before .before .before .before .before .args .cells .now) (c .before .before .before .before .before .before .before .before .before .before .before .before .before .args .slots .now)) (c .before .before .before .before .before .before .before .before .before .before .before .before .before .args .slot) (c .before .before .before .before .before .before .before .before .before .before .before .before .before .args .id .0) (c .before .before .before .before .before .before .before .before .before .before .before .before .before .pre) (c .before .before .before .before .before .before .before .before .width .ensures) (c .before .before .before .before .before .before .before .before .before .before .before .before .before .args .key) (length (c .before .before .before .before .before .before .before .before .before .before .before .before .before .args .results .now)) (c .before .before .before .before .before .before .before .before .before .before .before .before .before .args .marks .now) zeros zeros-long (c .before .before .before .before .before .before .before .before .before .before .before .before .before .args .late) _ _ _ (c .before .before .before .scan .ensures) _ _ _ (c .before .number .given .1)
 
--- src/lib.rt:64:1
 returns-2 : tie.Need-returns-2
 returns-2 c = search-late (mem (c .before .before .before .before .before .before .before .before .before .before .before .before .before .before .before .before .args .meta .now) (c .before .before .before .before .before .before .before .before .before .before .before .before .before .before .before .before .args .rows .now) (c .before .before .before .before .before .before .before .before .before .before .before .before .before .before .before .before .args .cells .now) (c .before .before .before .before .before .before .before .before .before .before .before .before .before .before .before .before .args .slots .now)) (c .before .before .before .before .before .before .before .before .before .before .before .before .before .before .before .before .args .slot) (c .before .before .before .before .before .before .before .before .before .before .before .before .before .before .before .before .args .id .0) (c .before .before .before .before .before .before .before .before .before .before .before .before .before .before .before .before .pre) (c .before .before .before .before .before .before .before .before .before .before .before .width .ensures) (c .before .before .before .before .before .before .before .before .before .before .before .before .before .before .before .before .args .key) (length (c .before .before .before .before .before .before .before .before .before .before .before .before .before .before .before .before .args .results .now)) (c .before .before .before .before .before .before .before .before .before .before .before .before .before .before .before .before .args .marks .now) zeros zeros-long (c .before .before .before .before .before .before .before .before .before .before .before .before .before .before .before .before .args .late) _ _ _ (c .before .before .before .before .before .before .scan .ensures) _ (c .before .before .before .before .count .given .1) _ _ _ (c .before .late .given .1)
 
--- src/lib.rt:64:1
 returns-3 : tie.Need-returns-3
 returns-3 c = search-listed (mem (c .before .before .before .before .before .before .before .before .before .before .before .before .before .before .before .before .before .before .before .before .args .meta .now) (c .before .before .before .before .before .before .before .before .before .before .before .before .before .before .before .before .before .before .before .before .args .rows .now) (c .before .before .before .before .before .before .before .before .before .before .before .before .before .before .before .before .before .before .before .before .args .cells .now) (c .before .before .before .before .before .before .before .before .before .before .before .before .before .before .before .before .before .before .before .before .args .slots .now)) (c .before .before .before .before .before .before .before .before .before .before .before .before .before .before .before .before .before .before .before .before .args .slot) (c .before .before .before .before .before .before .before .before .before .before .before .before .before .before .before .before .before .before .before .before .args .id .0) (c .before .before .before .before .before .before .before .before .before .before .before .before .before .before .before .before .before .before .before .before .pre) (c .before .before .before .before .before .before .before .before .before .before .before .before .before .before .before .width .ensures) (c .before .before .before .before .before .before .before .before .before .before .before .before .before .before .before .before .before .before .before .before .args .key) (length (c .before .before .before .before .before .before .before .before .before .before .before .before .before .before .before .before .before .before .before .before .args .results .now)) (c .before .before .before .before .before .before .before .before .before .before .before .before .before .before .before .before .before .before .before .before .args .marks .now) zeros zeros-long (c .before .before .before .before .before .before .before .before .before .before .before .before .before .before .before .before .before .before .before .before .args .late) _ _ _ (c .before .before .before .before .before .before .before .before .before .before .scan .ensures) _ (c .before .before .before .before .before .before .before .before .count .given .1) _ _ (c .before .before .before .before .before .enum-told .given .1) (c .before .before .fill .ensures)
 

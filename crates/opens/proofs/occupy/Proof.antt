@@ -2,61 +2,43 @@ use Rattle.opens.specs.OpenedAt.{idsAt, opened-at}
 use borrow.Author.Needs.{needs}
 use Rattle.opens.proofs.occupy.Statement.{statement}
 use Rattle.opens.proofs.occupy.Tie as tie
-use Rattle.opens.proofs.occupy.Reads as reads
-use Rattle.opens.proofs.occupy.Lts as lts
-use Rattle.opens.proofs.gather.Reads as gather-reads
-use Rattle.opens.proofs.open_slot.Reads as open-slot-reads
-use Rattle.slots.proofs.snapshot_of.Reads as snapshot-of-reads
 
--- src/lib.rt:86:5
 mul-slots : tie.Need-mul-slots
 mul-slots c = search needs
 
--- src/lib.rt:86:5
 index-1-slots : tie.Need-index-1-slots
 index-1-slots c = search needs
 
--- src/lib.rt:86:5
 index-2-slots : tie.Need-index-2-slots
 index-2-slots c = search needs
 
--- src/lib.rt:87:46
 add-snapshot-of : tie.Need-add-snapshot-of
 add-snapshot-of c = search needs
 
--- src/lib.rt:87:9
 snapshot-of-requires : tie.Need-snapshot-of-requires
 snapshot-of-requires c κs = search needs
 
--- src/lib.rt:89:31
 slice-aggregate-gather : tie.Need-slice-aggregate-gather
 slice-aggregate-gather c = search needs
 
--- src/lib.rt:89:9
 gather-requires : tie.Need-gather-requires
 gather-requires c κs = search needs
 
--- src/lib.rt:90:15
 mul-open-slot : tie.Need-mul-open-slot
 mul-open-slot c = search needs
 
--- src/lib.rt:90:15
 index-1-open-slot : tie.Need-index-1-open-slot
 index-1-open-slot c = search needs
 
--- src/lib.rt:90:50
 slice-aggregate-open-slot : tie.Need-slice-aggregate-open-slot
 slice-aggregate-open-slot c = search needs
 
--- src/lib.rt:90:5
 open-slot-requires : tie.Need-open-slot-requires
 open-slot-requires c κs = search needs
 
--- src/lib.rt:82:1
 same-length : tie.Need-same-length
 same-length c = search needs
 
--- src/lib.rt:82:1
 returns : tie.Need-returns
 unfolding idsAt
 returns c = rw (c .open-slot .ensures) (opened-at (c .before .before .before .before .before .before .before .before .before .args .slots .now) (c .before .before .before .before .before .before .before .before .before .args .s) (c .before .before .before .before .before .before .before .before .before .args .id) _ _ _ (c .before .before .before .before .before .before .before .before .before .pre .0) (c .before .before .before .before .before .before .before .snapshot-of .ensures .0) (c .before .before .before .before .before .before .before .snapshot-of .ensures .1) (c .before .before .before .before .gather .ensures .all))

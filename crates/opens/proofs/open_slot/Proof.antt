@@ -1,41 +1,30 @@
-use Rattle.rules.specs.Slots.{opened}
+use Rattle.kinds.specs.Slots.{opened}
 use lib.Seq.{length-take-le}
 use borrow.Author.Needs.{needs}
 use Rattle.opens.proofs.open_slot.Statement.{statement}
 use Rattle.opens.proofs.open_slot.Tie as tie
-use Rattle.opens.proofs.open_slot.Reads as reads
-use Rattle.opens.proofs.open_slot.Lts as lts
-use Rattle.opens.proofs.put_ids.Reads as put-ids-reads
 
--- src/lib.rt:71:5
 element-write-slot : tie.Need-element-write-slot
 element-write-slot c = search needs
 
--- src/lib.rt:72:5
 element-write-slot-2 : tie.Need-element-write-slot-2
 element-write-slot-2 c = search needs
 
--- src/lib.rt:73:5
 element-write-slot-3 : tie.Need-element-write-slot-3
 element-write-slot-3 c = search needs
 
--- src/lib.rt:74:5
 element-write-slot-4 : tie.Need-element-write-slot-4
 element-write-slot-4 c = search needs
 
--- src/lib.rt:75:5
 put-ids-requires : tie.Need-put-ids-requires
 put-ids-requires c κs = search needs
 
--- src/lib.rt:76:5
 element-write-slot-5 : tie.Need-element-write-slot-5
 element-write-slot-5 c = search needs
 
--- src/lib.rt:77:5
 element-write-slot-6 : tie.Need-element-write-slot-6
 element-write-slot-6 c = search needs
 
--- src/lib.rt:67:1
 returns : tie.Need-returns
 unfolding opened
 returns c = rw (c .put-ids .ensures, length-take-le (c .before .before .before .args .count) (c .before .before .before .args .ids .now) (c .before .before .before .pre .1))

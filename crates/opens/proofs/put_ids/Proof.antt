@@ -1,16 +1,13 @@
 use Rattle.opens.specs.PlaceLaws.{store-turn, store-end}
-use Rattle.rules.specs.Sizes.{base, ID, ACTIVE}
+use Rattle.kinds.specs.Sizes.{ACTIVE}
 use lib.Seq.{sets, getD-take}
-use lib.ListN.{length, getD, take, drop, set, length-take, length-set}
-use mathlib.Core.List.{List, _++_}
-use Prim.Native.Nat.{ℕ, _+_, _-_, _≤_, min}
+use lib.ListN.{take, drop, set, length-take}
+use Prim.Native.Nat.{ℕ, _+_, _-_, _≤_}
 use mathlib.Core.Path.{_≡_, refl, sym, ap, _∙_}
 use native.Mathlib.Omega.{arith}
 use borrow.Author.Needs.{needs}
 use Rattle.opens.proofs.put_ids.Statement.{statement}
 use Rattle.opens.proofs.put_ids.Tie as tie
-use Rattle.opens.proofs.put_ids.Reads as reads
-use Rattle.opens.proofs.put_ids.Lts as lts
 
 abbrev Inv-loop : tie.InvT-loop
 Inv-loop slot₀ ids count i₀ slot i =
@@ -19,47 +16,36 @@ Inv-loop slot₀ ids count i₀ slot i =
 abbrev μ-loop : tie.MeasureT-loop
 μ-loop slot₀ ids count i₀ slot i = count - i
 
--- src/lib.rt:60:5
 loop-holds : tie.Need-loop-holds Inv-loop μ-loop
 loop-holds c = (omega arith, refl)
 
--- src/lib.rt:61:32
 mul-slot : tie.Need-mul-slot Inv-loop μ-loop
 mul-slot c = search needs
 
--- src/lib.rt:61:32
 shared-slice-read-slot : tie.Need-shared-slice-read-slot Inv-loop μ-loop
 shared-slice-read-slot c = omega arith
 
--- src/lib.rt:61:14
 add-slot : tie.Need-add-slot Inv-loop μ-loop
 add-slot c = omega arith
 
--- src/lib.rt:61:14
 add-slot-2 : tie.Need-add-slot-2 Inv-loop μ-loop
 add-slot-2 c = omega arith
 
--- src/lib.rt:61:9
 mul-slot-2 : tie.Need-mul-slot-2 Inv-loop μ-loop
 mul-slot-2 c = search needs
 
--- src/lib.rt:61:9
 element-write-slot : tie.Need-element-write-slot Inv-loop μ-loop
 element-write-slot c = search needs
 
--- src/lib.rt:62:9
 add-i : tie.Need-add-i Inv-loop μ-loop
 add-i c = omega arith
 
--- src/lib.rt:60:5
 loop-less : tie.Need-loop-less Inv-loop μ-loop
 loop-less c = omega arith
 
--- src/lib.rt:60:5
 loop-again : tie.Need-loop-again Inv-loop μ-loop
 loop-again c = (omega arith, ap (λ (x : ℕ). sets (set (c .before .before .loop .slot) (ACTIVE + 1 + c .before .before .loop .i) x) (ACTIVE + 1 + (c .before .before .loop .i + 1)) (drop (c .before .before .loop .i + 1) (take (c .before .before .before .args .count) (c .before .before .before .args .ids .now)))) (sym (getD-take (c .before .before .before .args .count) (c .before .before .before .args .ids .now) (c .before .before .loop .i) 0 (omega arith))) ∙ store-turn (c .before .before .loop .slot) (take (c .before .before .before .args .count) (c .before .before .before .args .ids .now)) (ACTIVE + 1) (c .before .before .loop .i) (rw length-take (omega arith)) ∙ c .before .before .loop .inv .1)
 
--- src/lib.rt:55:1
 returns : tie.Need-returns Inv-loop μ-loop
 returns c = sym (store-end (c .before .loop .slot) (take (c .before .before .args .count) (c .before .before .args .ids .now)) (ACTIVE + 1) (c .before .loop .i) (rw length-take (omega arith))) ∙ c .before .loop .inv .1
 

@@ -1,14 +1,10 @@
 use borrow.Author.Tests.{eq-eqb, ne-eqb}
 use Rattle.pieces.proofs.is_end.Statement.{statement}
 use Rattle.pieces.proofs.is_end.Tie as tie
-use Rattle.pieces.proofs.is_end.Reads as reads
-use Rattle.pieces.proofs.is_end.Lts as lts
 
--- src/lib.rt:23:9
 returns : tie.Need-returns
 returns c = rw (ne-eqb (c .before .args .a) 13 (c .if1 .taken))
 
--- src/lib.rt:19:1
 returns-2 : tie.Need-returns-2
 returns-2 c = rw (eq-eqb (c .before .args .a) 13 (c .if1 .left))
 

@@ -7,9 +7,6 @@ use Rattle.pieces.specs.Ends.{firstEnd, placed}
 use Rattle.pieces.specs.Laws.{end-none, end-here, end-later}
 use Rattle.pieces.proofs.line_end.Statement.{statement}
 use Rattle.pieces.proofs.line_end.Tie as tie
-use Rattle.pieces.proofs.line_end.Reads as reads
-use Rattle.pieces.proofs.line_end.Lts as lts
-use Rattle.pieces.proofs.is_end.Reads as is-end-reads
 
 abbrev Inv-loop : tie.InvT-loop
 Inv-loop s from i₀ i = (i ≤ length s) × (placed i (firstEnd (drop i s)) ≡ placed from (firstEnd (drop from s)))
@@ -17,47 +14,36 @@ Inv-loop s from i₀ i = (i ≤ length s) × (placed i (firstEnd (drop i s)) ≡
 abbrev μ-loop : tie.MeasureT-loop
 μ-loop s from i₀ i = length s - i
 
--- src/lib.rt:34:5
 loop-holds : tie.Need-loop-holds Inv-loop μ-loop
 loop-holds c = (c .before .pre, refl)
 
--- src/lib.rt:34:11
 sub-loop : tie.Need-sub-loop Inv-loop μ-loop
 sub-loop c = omega arith
 
--- src/lib.rt:35:19
 shared-slice-read-is-end : tie.Need-shared-slice-read-is-end Inv-loop μ-loop
 shared-slice-read-is-end c = omega arith
 
--- src/lib.rt:35:27
 add-is-end : tie.Need-add-is-end Inv-loop μ-loop
 add-is-end c = omega arith
 
--- src/lib.rt:35:25
 shared-slice-read-is-end-2 : tie.Need-shared-slice-read-is-end-2 Inv-loop μ-loop
 shared-slice-read-is-end-2 c = omega arith
 
--- src/lib.rt:35:12
 is-end-requires : tie.Need-is-end-requires Inv-loop μ-loop
 is-end-requires c κs = search needs
 
--- src/lib.rt:36:13
 returns : tie.Need-returns Inv-loop μ-loop
 returns c = sym (end-here (c .before .before .before .before .before .before .before .args .s .now) (c .before .before .before .before .before .loop .i) (c .before .before .before .before .loop-test .taken) (sym (c .before .is-end .ensures) ∙ c .if1 .taken)) ∙ c .before .before .before .before .before .loop .inv .1
 
--- src/lib.rt:38:9
 add-i : tie.Need-add-i Inv-loop μ-loop
 add-i c = omega arith
 
--- src/lib.rt:34:5
 loop-less : tie.Need-loop-less Inv-loop μ-loop
 loop-less c = omega arith
 
--- src/lib.rt:34:5
 loop-again : tie.Need-loop-again Inv-loop μ-loop
 loop-again c = (omega arith, sym (end-later (c .before .before .before .before .before .before .before .args .s .now) (c .before .before .before .before .before .loop .i) (c .before .before .before .before .loop-test .taken) (sym (c .before .is-end .ensures) ∙ c .if1 .left)) ∙ c .before .before .before .before .before .loop .inv .1)
 
--- src/lib.rt:29:1
 returns-2 : tie.Need-returns-2 Inv-loop μ-loop
 returns-2 c = sym (end-none (c .before .before .before .args .s .now) (c .before .loop .i) (c .loop-test .left)) ∙ c .before .loop .inv .1
 

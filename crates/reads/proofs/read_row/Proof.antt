@@ -1,61 +1,45 @@
 use Rattle.reads.specs.Sights.{sightFound, read-row-is}
-use Rattle.rules.specs.Versions.{versionAt}
-use Rattle.rules.specs.Slots.{slotOf}
-use Rattle.rules.specs.Sizes.{base}
+use Rattle.kinds.specs.Versions.{versionAt}
+use Rattle.kinds.specs.Slots.{slotOf}
+use Rattle.kinds.specs.Sizes.{base}
 use mathlib.Core.Path.{sym, ap, _∙_}
 use borrow.Author.Needs.{needs}
 use Rattle.reads.proofs.read_row.Statement.{statement}
 use Rattle.reads.proofs.read_row.Tie as tie
-use Rattle.reads.proofs.read_row.Reads as reads
-use Rattle.reads.proofs.read_row.Lts as lts
-use Rattle.reads.proofs.find_row.Reads as find-row-reads
-use Rattle.reads.proofs.recording.Reads as recording-reads
 
--- src/lib.rt:145:11
 find-row-requires : tie.Need-find-row-requires
 find-row-requires c κs = search needs
 
--- src/lib.rt:146:20
 enum-known-c : tie.Need-enum-known-c
 enum-known-c c = search needs
 
--- src/lib.rt:147:24
 enum-known-c-2 : tie.Need-enum-known-c-2
 enum-known-c-2 c = search needs
 
--- src/lib.rt:147:30
 recording-requires : tie.Need-recording-requires
 recording-requires c κs = search needs
 
--- src/lib.rt:148:40
 enum-told : tie.Need-enum-told
 enum-told c = search needs
 
--- src/lib.rt:149:27
 enum-told-2 : tie.Need-enum-told-2
 enum-told-2 c = search needs
 
--- src/lib.rt:150:26
 enum-told-3 : tie.Need-enum-told-3
 enum-told-3 c = search needs
 
--- src/lib.rt:141:1
 returns : tie.Need-returns
 returns c = sym (read-row-is (c .before .before .before .before .args .n) (versionAt (c .before .before .before .before .args .cells .now)) (c .before .before .before .before .args .head .0) (slotOf base (c .before .before .before .before .args .slot .now)) (slotOf base (c .before .before .before .before .args .slot .now) .recs) (c .before .before .before .before .args .row) ∙ ap (sightFound (versionAt (c .before .before .before .before .args .cells .now)) (slotOf base (c .before .before .before .before .args .slot .now) .recs) (c .before .before .before .before .args .row)) (sym (c .before .before .before .find-row .ensures) ∙ c .before .c .given .1))
 
--- src/lib.rt:141:1
 returns-2 : tie.Need-returns-2
 returns-2 c = c .recording .ensures ∙ sym (read-row-is (c .before .before .before .before .before .args .n) (versionAt (c .before .before .before .before .before .args .cells .now)) (c .before .before .before .before .before .args .head .0) (slotOf base (c .before .before .before .before .before .args .slot .now)) (slotOf base (c .before .before .before .before .before .args .slot .now) .recs) (c .before .before .before .before .before .args .row) ∙ ap (sightFound (versionAt (c .before .before .before .before .before .args .cells .now)) (slotOf base (c .before .before .before .before .before .args .slot .now) .recs) (c .before .before .before .before .before .args .row)) (sym (c .before .before .before .before .find-row .ensures) ∙ c .before .before .c2 .given .1))
 
--- src/lib.rt:141:1
 returns-3 : tie.Need-returns-3
 returns-3 c = sym (read-row-is (c .before .before .before .args .n) (versionAt (c .before .before .before .args .cells .now)) (c .before .before .before .args .head .0) (slotOf base (c .before .before .before .args .slot .now)) (slotOf base (c .before .before .before .args .slot .now) .recs) (c .before .before .before .args .row) ∙ ap (sightFound (versionAt (c .before .before .before .args .cells .now)) (slotOf base (c .before .before .before .args .slot .now) .recs) (c .before .before .before .args .row)) (sym (c .before .before .find-row .ensures) ∙ c .enum-told .given .1))
 
--- src/lib.rt:141:1
 returns-4 : tie.Need-returns-4
 returns-4 c = sym (read-row-is (c .before .before .before .args .n) (versionAt (c .before .before .before .args .cells .now)) (c .before .before .before .args .head .0) (slotOf base (c .before .before .before .args .slot .now)) (slotOf base (c .before .before .before .args .slot .now) .recs) (c .before .before .before .args .row) ∙ ap (sightFound (versionAt (c .before .before .before .args .cells .now)) (slotOf base (c .before .before .before .args .slot .now) .recs) (c .before .before .before .args .row)) (sym (c .before .before .find-row .ensures) ∙ c .enum-told2 .given .1))
 
--- src/lib.rt:141:1
 returns-5 : tie.Need-returns-5
 returns-5 c = sym (read-row-is (c .before .before .before .args .n) (versionAt (c .before .before .before .args .cells .now)) (c .before .before .before .args .head .0) (slotOf base (c .before .before .before .args .slot .now)) (slotOf base (c .before .before .before .args .slot .now) .recs) (c .before .before .before .args .row) ∙ ap (sightFound (versionAt (c .before .before .before .args .cells .now)) (slotOf base (c .before .before .before .args .slot .now) .recs) (c .before .before .before .args .row)) (sym (c .before .before .find-row .ensures) ∙ c .enum-told3 .given .1))
 

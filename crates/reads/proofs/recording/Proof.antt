@@ -1,41 +1,32 @@
 use lib.ListN.{length}
 use Rattle.reads.specs.Sights.{recordOf, records-count}
-use Rattle.rules.specs.Slots.{slotOf}
-use Rattle.rules.specs.Sizes.{base}
+use Rattle.kinds.specs.Slots.{slotOf}
+use Rattle.kinds.specs.Sizes.{base}
 use borrow.Author.Tests.{le-leb, lt-leb}
 use native.Mathlib.Omega.{arith}
-use mathlib.Core.Path.{sym, ap, _∙_}
+use mathlib.Core.Path.{sym, _∙_}
 use borrow.Author.Needs.{needs}
 use Rattle.reads.proofs.recording.Statement.{statement}
 use Rattle.reads.proofs.recording.Tie as tie
 use Rattle.reads.proofs.recording.Reads as reads
-use Rattle.reads.proofs.recording.Lts as lts
-use Rattle.arena.proofs.version_at.Reads as version-at-reads
-use Rattle.reads.proofs.is_recorded.Reads as is-recorded-reads
 
--- src/lib.rt:130:8
 is-recorded-requires : tie.Need-is-recorded-requires
 is-recorded-requires c κs = search needs
 
--- src/lib.rt:131:9
 returns : tie.Need-returns
 unfolding recordOf
 returns c = rw (sym (c .before .is-recorded .ensures) ∙ c .if1 .taken)
 
--- src/lib.rt:133:8
 element-copy-out-if2 : tie.Need-element-copy-out-if2
 element-copy-out-if2 c = search needs
 
--- src/lib.rt:134:9
 returns-2 : tie.Need-returns-2
 unfolding recordOf
 returns-2 c = rw (sym (c .before .before .before .is-recorded .ensures) ∙ c .before .before .if1 .left, le-leb (base .reads) (length (slotOf base (c .before .before .before .before .args .slot .now) .recs)) (omega (arith, records-count (c .before .before .before .before .args .slot .now), c .if2 .taken)))
 
--- src/lib.rt:136:9
 version-at-requires : tie.Need-version-at-requires
 version-at-requires c κs = search needs
 
--- src/lib.rt:127:1
 returns-3 : tie.Need-returns-3
 unfolding recordOf
 returns-3 c = rw (sym (c .before .before .before .before .before .is-recorded .ensures) ∙ c .before .before .before .before .if1 .left, lt-leb (base .reads) (length (slotOf base (c .before .before .before .before .before .before .args .slot .now) .recs)) (omega (arith, records-count (c .before .before .before .before .before .before .args .slot .now), c .before .before .if2 .left)), c .before .version-at .ensures)

@@ -6,11 +6,11 @@ use Prim.Native.Nat.{_≤_, ℕ, suc}
 use native.Mathlib.Omega.{arith}
 use lib.Seq.{getD-set-same, getD-set-other}
 use borrow.Author.Tests.{ltb-false}
-use Rattle.rules.specs.declared.Answer.{Answer}
-use Rattle.rules.specs.Sizes.{Sizes}
-use Rattle.rules.specs.Lists.{fold}
-use Rattle.rules.specs.Versions.{at, versionAt}
-use Rattle.rules.specs.Slots.{Write, Slot, emptied}
+use Rattle.kinds.specs.declared.Answer.{Answer}
+use Rattle.kinds.specs.Sizes.{Sizes}
+use Rattle.kinds.specs.Lists.{fold}
+use Rattle.kinds.specs.Versions.{at, versionAt}
+use Rattle.kinds.specs.Slots.{Write, Slot, emptied}
 use Rattle.rules.specs.Memory.{Mem, sizeN, slotAt, withCells, withSlot, headAt, free, clock}
 use Rattle.rules.specs.Outcome.{each, Outcome, refuse, slotTests}
 use Rattle.rules.specs.Abort.{abortTests, news, unlockBase, giveBack, abortOut}

@@ -8,11 +8,11 @@ use lib.Dec.{eqb, leb}
 use lib.ListN.{length, getD, take, length-take, length-set}
 use lib.Seq.{getD-set-other}
 use borrow.Author.Tests.{eqb-true, leb-false}
-use Rattle.rules.specs.declared.Answer.{Answer}
-use Rattle.rules.specs.Sizes.{ID, Sizes, CLOCK, ROWS, CELLS, lastId}
+use Rattle.kinds.specs.declared.Answer.{Answer}
+use Rattle.kinds.specs.Sizes.{ID, Sizes, CLOCK, ROWS, CELLS, lastId}
 use Rattle.rules.specs.Numbers.{noFreeSlot, clockSpent}
-use Rattle.rules.specs.Versions.{at}
-use Rattle.rules.specs.Slots.{slotOf}
+use Rattle.kinds.specs.Versions.{at}
+use Rattle.kinds.specs.Slots.{slotOf}
 use Rattle.rules.specs.Memory.{Mem, wordsAt, slotAt, clock}
 use Rattle.rules.specs.Snapshot.{vacant}
 use Rattle.rules.specs.Outcome.{test, Outcome, refuse, storeTests}

@@ -7,8 +7,8 @@ use native.Mathlib.Nat.{not-suc-le-zero}
 use native.Mathlib.Omega.{arith}
 use lib.ListN.{length, getD, length-set, set}
 use lib.Seq.{getD-set-same, getD-set-other}
-use Rattle.rules.specs.declared.Version.{Version}
-use Rattle.rules.specs.Versions.{cellAt, putCell, wordsOf, versionAt, versionOf, linkAt}
+use Rattle.kinds.specs.declared.Version.{Version}
+use Rattle.kinds.specs.Versions.{cellAt, putCell, wordsOf, versionAt, versionOf, linkAt}
 
 -- the arena has cell c
 pub record HasCell (cs : List (List ℕ)) (c : ℕ) : Type 0 where

@@ -7,10 +7,10 @@ use Prim.Native.Nat.{ℕ}
 use native.Mathlib.Omega.{arith}
 use lib.Dec.{eqb}
 use lib.ListN.{getD}
-use Rattle.rules.specs.declared.Version.{Version}
-use Rattle.rules.specs.Lists.{fold, nonzero}
-use Rattle.rules.specs.Versions.{emptyVersion, withLock}
-use Rattle.rules.specs.Slots.{Write}
+use Rattle.kinds.specs.declared.Version.{Version}
+use Rattle.kinds.specs.Lists.{fold, nonzero}
+use Rattle.kinds.specs.Versions.{emptyVersion, withLock}
+use Rattle.kinds.specs.Slots.{Write}
 use Rattle.rules.specs.Abort.{news}
 use Rattle.rules.specs.Reachable.{All}
 use Rattle.rules.specs.Theory.Cases.{byBool}

@@ -8,7 +8,7 @@ use native.Mathlib.Omega.{arith}
 use lib.Dec.{eqb}
 use lib.ListN.{length, take, getD}
 use borrow.Author.Tests.{eq-eqb, ne-eqb, le-ltb}
-use Rattle.rules.specs.declared.Version.{Version}
+use Rattle.kinds.specs.declared.Version.{Version}
 use Rattle.rules.specs.Chain.{After, ends, goesOn, chain, chained, Chain}
 use Rattle.rules.specs.Theory.Cases.{byEq}
 use Rattle.rules.specs.Theory.View.{View}

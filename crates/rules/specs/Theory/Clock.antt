@@ -6,10 +6,10 @@ use Prim.Native.Nat.{ℕ}
 use native.Mathlib.Omega.{arith}
 use lib.ListN.{getD}
 use lib.Seq.{getD-set-other}
-use Rattle.rules.specs.Sizes.{Sizes, FREE, CLOCK}
-use Rattle.rules.specs.Lists.{fold, keep}
-use Rattle.rules.specs.Versions.{versionAt}
-use Rattle.rules.specs.Slots.{Write}
+use Rattle.kinds.specs.Sizes.{Sizes, FREE, CLOCK}
+use Rattle.kinds.specs.Lists.{fold, keep}
+use Rattle.kinds.specs.Versions.{versionAt}
+use Rattle.kinds.specs.Slots.{Write}
 use Rattle.rules.specs.Memory.{Mem, clock, slotAt}
 use Rattle.rules.specs.Chain.{After, goesOn, broken, ends}
 use Rattle.rules.specs.Outcome.{Outcome, refuseRead, refuse, Test}
@@ -17,7 +17,8 @@ use Rattle.rules.specs.Read.{Sight, readEnd, blocked, sees, readOut}
 use Rattle.rules.specs.Write.{writeNow, prepared, writeOut}
 use Rattle.rules.specs.Commit.{publish, publishAll, commitOut}
 use Rattle.rules.specs.Abort.{giveBack, abortOut, news}
-use Rattle.rules.specs.Vacuum.{vacuumNow, swept, reclaimable, vacuumOut}
+use Rattle.rules.specs.Vacuum.{vacuumNow, swept, vacuumOut}
+use Rattle.kinds.specs.Versions.{reclaimable}
 use Rattle.rules.specs.Lookup.{Found, lookupEnd, stopped, got, lookupOut, lookupAllOut}
 use Rattle.rules.specs.Theory.Guard.{guardCase}
 

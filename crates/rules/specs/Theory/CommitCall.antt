@@ -4,10 +4,10 @@ use mathlib.Core.Path.{ap, _≡_, refl, _∙_, sym}
 use Prim.Native.Nat.{_<_, _≤_, ℕ, suc}
 use native.Mathlib.Omega.{arith}
 use borrow.Author.Tests.{leb-false, ltb-false, eqb-true, not-false}
-use Rattle.rules.specs.declared.Answer.{Answer}
-use Rattle.rules.specs.Sizes.{Sizes}
-use Rattle.rules.specs.Lists.{fold}
-use Rattle.rules.specs.Slots.{Write, Slot, emptied}
+use Rattle.kinds.specs.declared.Answer.{Answer}
+use Rattle.kinds.specs.Sizes.{Sizes}
+use Rattle.kinds.specs.Lists.{fold}
+use Rattle.kinds.specs.Slots.{Write, Slot, emptied}
 use Rattle.rules.specs.Memory.{Mem, headAt, sizeR, sizeN, slotAt, withSlot}
 use Rattle.rules.specs.Outcome.{each, slotTests, Outcome, refuse}
 use Rattle.rules.specs.Commit.{baseTests, newTests, commitTests, recordTests, publishAll, commitOut}

@@ -5,12 +5,12 @@ use mathlib.Core.Path.{_≡_, ap, _∙_, sym, subst}
 use Prim.Native.Nat.{ℕ, _<_}
 use native.Mathlib.Omega.{arith}
 use borrow.Author.Tests.{eqb-false, not-true}
-use Rattle.rules.specs.declared.Answer.{Answer}
-use Rattle.rules.specs.Sizes.{Sizes}
+use Rattle.kinds.specs.declared.Answer.{Answer}
+use Rattle.kinds.specs.Sizes.{Sizes}
 use Rattle.rules.specs.Numbers.{writeConflict}
-use Rattle.rules.specs.Lists.{nonzero}
-use Rattle.rules.specs.Versions.{versionAt}
-use Rattle.rules.specs.Slots.{Slot, Rec, Write}
+use Rattle.kinds.specs.Lists.{nonzero}
+use Rattle.kinds.specs.Versions.{versionAt}
+use Rattle.kinds.specs.Slots.{Slot, Rec, Write}
 use Rattle.rules.specs.Memory.{Mem, headAt, slotAt}
 use Rattle.rules.specs.Outcome.{slotTests, storeTests, each, refuse, Outcome}
 use Rattle.rules.specs.Commit.{recordTests, newTests, baseTests, commitTests, commitOut}

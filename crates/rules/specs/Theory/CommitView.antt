@@ -9,10 +9,10 @@ use native.Mathlib.Omega.{arith}
 use lib.Dec.{eqb}
 use lib.Seq.{getD-set-same, getD-set-other}
 use borrow.Author.Tests.{eqb-false, eq-eqb, ne-eqb}
-use Rattle.rules.specs.Lists.{fold, last, orElse}
-use Rattle.rules.specs.Versions.{at}
-use Rattle.rules.specs.Slots.{Write}
-use Rattle.rules.specs.Visible.{creatorVisible}
+use Rattle.kinds.specs.Lists.{fold, last, orElse}
+use Rattle.kinds.specs.Versions.{at}
+use Rattle.kinds.specs.Slots.{Write}
+use Rattle.kinds.specs.Visible.{creatorVisible}
 use Rattle.rules.specs.Abort.{news}
 use Rattle.rules.specs.History.{Val}
 use Rattle.rules.specs.Theory.Cases.{byEq}

@@ -8,9 +8,9 @@ use Prim.Native.Nat.{ℕ, _<_, _+_}
 use native.Mathlib.Omega.{arith}
 use lib.Dec.{eqb}
 use lib.Seq.{getD-set-same}
-use Rattle.rules.specs.declared.Answer.{Answer}
-use Rattle.rules.specs.declared.Answer.the-variants.{Wrote, Done, Begun, Vacuumed, Listed}
-use Rattle.rules.specs.Sizes.{Sizes, CLOCK}
+use Rattle.kinds.specs.declared.Answer.{Answer}
+use Rattle.kinds.specs.declared.Answer.the-variants.{Wrote, Done, Begun, Vacuumed, Listed}
+use Rattle.kinds.specs.Sizes.{Sizes, CLOCK}
 use Rattle.rules.specs.Memory.{Mem, clock}
 use Rattle.rules.specs.Outcome.{Outcome, refuse}
 use Rattle.rules.specs.Create.{createOut}

@@ -9,7 +9,7 @@ use native.Mathlib.Omega.{arith}
 use lib.Dec.{eqb}
 use lib.ListN.{set, length, getD}
 use borrow.Author.Tests.{eq-eqb, ne-eqb}
-use Rattle.rules.specs.Versions.{at}
+use Rattle.kinds.specs.Versions.{at}
 
 -- 1 where the test passes
 unfoldable pub bit : Bool → ℕ

@@ -11,11 +11,11 @@ use lib.Dec.{ltb, leb}
 use lib.ListN.{getD, replicate, set, length, length-set, take, length-replicate, getD-replicate}
 use lib.Seq.{sets, getD-set-other, getD-set-same, sets-eq, length-sets}
 use borrow.Author.Tests.{ne-eqb, ltb-true, ltb-false, le-ltb, lt-ltb, eq-eqb, leb-true, le-leb}
-use Rattle.rules.specs.declared.Version.{Version}
-use Rattle.rules.specs.Sizes.{Sizes, metaWords, Roomy, FREE, ROWS, CELLS, CLOCK}
-use Rattle.rules.specs.Lists.{from}
-use Rattle.rules.specs.Versions.{wordsOf, versionOf, emptyVersion, cellAt, linkAt, versionAt}
-use Rattle.rules.specs.Slots.{emptied, Slot, slotOf}
+use Rattle.kinds.specs.declared.Version.{Version}
+use Rattle.kinds.specs.Sizes.{Sizes, metaWords, Roomy, FREE, ROWS, CELLS, CLOCK}
+use Rattle.kinds.specs.Lists.{from}
+use Rattle.kinds.specs.Versions.{wordsOf, versionOf, emptyVersion, cellAt, linkAt, versionAt}
+use Rattle.kinds.specs.Slots.{emptied, Slot, slotOf}
 use Rattle.rules.specs.Memory.{Mem, headAt, free}
 use Rattle.rules.specs.Outcome.{fits}
 use Rattle.rules.specs.Create.{freshCells, created}

@@ -5,10 +5,10 @@ use mathlib.Core.Option.{Option}
 use Prim.Native.Nat.{ℕ, _+_}
 use lib.Dec.{eqb}
 use lib.ListN.{set, getD}
-use Rattle.rules.specs.declared.Version.{Version}
-use Rattle.rules.specs.Lists.{nonzero, fold}
-use Rattle.rules.specs.Versions.{withLock, withXmax, withNext, version, keyedOf, keyOf, emptyVersion}
-use Rattle.rules.specs.Slots.{Write, Slot, write}
+use Rattle.kinds.specs.declared.Version.{Version}
+use Rattle.kinds.specs.Lists.{nonzero, fold}
+use Rattle.kinds.specs.Versions.{withLock, withXmax, withNext, version, keyedOf, keyOf, emptyVersion}
+use Rattle.kinds.specs.Slots.{Write, Slot, write}
 use Rattle.rules.specs.Snapshot.{snapLow, snapTop}
 use Rattle.rules.specs.Theory.SlotLaws.{withWrite, newSlot}
 use Rattle.rules.specs.Theory.View.{upd, View, emptySlot}

@@ -9,15 +9,15 @@ use native.Mathlib.Omega.{arith}
 use lib.Dec.{leb, eqb}
 use lib.ListN.{getD}
 use borrow.Author.Tests.{leb-true, eq-eqb, leb-false, ne-eqb}
-use Rattle.rules.specs.Sizes.{Sizes}
-use Rattle.rules.specs.Lists.{least, has, greatest, first}
-use Rattle.rules.specs.Versions.{at, versionAt}
-use Rattle.rules.specs.Slots.{Slot, Write, Rec}
+use Rattle.kinds.specs.Sizes.{Sizes}
+use Rattle.kinds.specs.Lists.{least, has, greatest, first}
+use Rattle.kinds.specs.Versions.{at, versionAt}
+use Rattle.kinds.specs.Slots.{Slot, Write, Rec}
 use Rattle.rules.specs.Memory.{Mem, headAt, slotAt, clock}
-use Rattle.rules.specs.Visible.{visible}
+use Rattle.kinds.specs.Visible.{visible}
 use Rattle.rules.specs.Chain.{Chain}
 use Rattle.rules.specs.Snapshot.{horizon}
-use Rattle.rules.specs.Vacuum.{reclaimable}
+use Rattle.kinds.specs.Versions.{reclaimable}
 use Rattle.rules.specs.Lookup.{ownRows}
 use Rattle.rules.specs.History.{Log, whoIn}
 use Rattle.rules.specs.Reachable.{All, InOrder, rowsRead, basesOf, chainAt, behind, times, LockedFor, TrueStill, seesAt, BaseOf}

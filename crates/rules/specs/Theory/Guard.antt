@@ -4,7 +4,7 @@ use mathlib.Core.List.{List, [], _∷_, _++_}
 use mathlib.Core.Logic.{_≢_, _⊎_, inl, inr, ⊎-elim}
 use mathlib.Core.Path.{_≡_, refl, sym, _∙_}
 use Prim.Native.Nat.{ℕ}
-use Rattle.rules.specs.Versions.{at}
+use Rattle.kinds.specs.Versions.{at}
 use Rattle.rules.specs.Outcome.{Test, guard, each}
 use Rattle.rules.specs.Reachable.{All, In}
 use Rattle.rules.specs.Theory.Cases.{byBool}

@@ -10,10 +10,10 @@ use mathlib.Core.Path.{_≡_, refl, subst, sym, ap, _∙_}
 use Prim.Native.Nat.{ℕ, _+_, _<_, _≤_}
 use lib.Dec.{eqb, ltb}
 use lib.ListN.{getD, length}
-use Rattle.rules.specs.declared.Version.{Version}
-use Rattle.rules.specs.Lists.{nonzero, has, least, greatest}
-use Rattle.rules.specs.Slots.{Slot, Write, Rec}
-use Rattle.rules.specs.Visible.{creatorVisible, visible}
+use Rattle.kinds.specs.declared.Version.{Version}
+use Rattle.kinds.specs.Lists.{nonzero, has, least, greatest}
+use Rattle.kinds.specs.Slots.{Slot, Write, Rec}
+use Rattle.kinds.specs.Visible.{creatorVisible, visible}
 use Rattle.rules.specs.Abort.{news}
 use Rattle.rules.specs.History.{Val, said}
 use Rattle.rules.specs.Reachable.{All}

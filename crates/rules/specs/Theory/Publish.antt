@@ -9,11 +9,11 @@ use native.Mathlib.Omega.{arith}
 use lib.ListN.{getD, set, length, length-set}
 use lib.Seq.{getD-set-same, getD-set-other}
 use borrow.Author.Tests.{eq-eqb, ne-eqb}
-use Rattle.rules.specs.declared.Version.{Version}
-use Rattle.rules.specs.Lists.{nonzero}
-use Rattle.rules.specs.Versions.{withNext, withLock, withXmax, at}
-use Rattle.rules.specs.Slots.{Slot, Write, Rec}
-use Rattle.rules.specs.Visible.{creatorVisible}
+use Rattle.kinds.specs.declared.Version.{Version}
+use Rattle.kinds.specs.Lists.{nonzero}
+use Rattle.kinds.specs.Versions.{withNext, withLock, withXmax, at}
+use Rattle.kinds.specs.Slots.{Slot, Write, Rec}
+use Rattle.kinds.specs.Visible.{creatorVisible}
 use Rattle.rules.specs.History.{Val}
 use Rattle.rules.specs.Theory.Cases.{byEq, byBool}
 use Rattle.rules.specs.Theory.View.{upd, upd-other, upd-same, View}

@@ -4,10 +4,10 @@ use mathlib.Core.Path.{_≡_, refl, subst, sym}
 use Prim.Native.Nat.{ℕ, _+_, _≤_, suc, _<_}
 use lib.ListN.{length, getD, length-append}
 use borrow.Author.Tests.{leb-false}
-use Rattle.rules.specs.declared.ReadAnswer.{ReadAnswer}
-use Rattle.rules.specs.Sizes.{Sizes, READS}
-use Rattle.rules.specs.Versions.{at, versionAt}
-use Rattle.rules.specs.Slots.{Rec, Slot, addRecs}
+use Rattle.kinds.specs.declared.ReadAnswer.{ReadAnswer}
+use Rattle.kinds.specs.Sizes.{Sizes, READS}
+use Rattle.kinds.specs.Versions.{at, versionAt}
+use Rattle.kinds.specs.Slots.{Rec, Slot, addRecs}
 use Rattle.rules.specs.Memory.{Mem, wordsAt, withSlot, sizeR, slotAt, headAt}
 use Rattle.rules.specs.Outcome.{Outcome, refuseRead, slotTests, rowTest}
 use Rattle.rules.specs.Read.{Sight, readEnd, blocked, sees, readAt, readRow, readOut}

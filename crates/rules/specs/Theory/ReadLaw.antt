@@ -8,15 +8,15 @@ use Prim.Native.Nat.{ℕ, _<_, _≤_}
 use native.Mathlib.Omega.{arith}
 use lib.ListN.{getD, take, length}
 use borrow.Author.Tests.{not-false, lt-leb, ne-eqb}
-use Rattle.rules.specs.declared.Answer.{Answer}
-use Rattle.rules.specs.declared.Answer.the-variants.{Done}
-use Rattle.rules.specs.declared.ReadAnswer.{ReadAnswer}
-use Rattle.rules.specs.declared.ReadAnswer.the-variants.{None}
-use Rattle.rules.specs.Sizes.{Sizes, Roomy}
+use Rattle.kinds.specs.declared.Answer.{Answer}
+use Rattle.kinds.specs.declared.Answer.the-variants.{Done}
+use Rattle.kinds.specs.declared.ReadAnswer.{ReadAnswer}
+use Rattle.kinds.specs.declared.ReadAnswer.the-variants.{None}
+use Rattle.kinds.specs.Sizes.{Sizes, Roomy}
 use Rattle.rules.specs.Numbers.{badSize, chainTooLong, readSetFull, readNumber}
-use Rattle.rules.specs.Lists.{first}
-use Rattle.rules.specs.Versions.{at, versionAt}
-use Rattle.rules.specs.Slots.{Slot, Rec}
+use Rattle.kinds.specs.Lists.{first}
+use Rattle.kinds.specs.Versions.{at, versionAt}
+use Rattle.kinds.specs.Slots.{Slot, Rec}
 use Rattle.rules.specs.Memory.{Mem, slotAt, wordsAt, sizeR}
 use Rattle.rules.specs.Chain.{Chain}
 use Rattle.rules.specs.Outcome.{Outcome, refuse, test, fits, slotTests, rowTest, refuseRead}

@@ -9,13 +9,13 @@ use native.Mathlib.Omega.{arith}
 use lib.ListN.{getD, set, length, length-append, take}
 use lib.Seq.{getD-set-other, getD-set-same}
 use borrow.Author.Tests.{leb-false, eq-eqb, ne-eqb}
-use Rattle.rules.specs.declared.Answer.{Answer}
-use Rattle.rules.specs.declared.Answer.the-variants.{Done, Begun, Wrote, Vacuumed, Listed}
-use Rattle.rules.specs.declared.ReadAnswer.{ReadAnswer}
-use Rattle.rules.specs.Sizes.{Sizes, READS, WRITES}
-use Rattle.rules.specs.Lists.{keep}
-use Rattle.rules.specs.Versions.{at, versionAt}
-use Rattle.rules.specs.Slots.{Rec, slotOf, Slot, addRecs, write, Write, emptied}
+use Rattle.kinds.specs.declared.Answer.{Answer}
+use Rattle.kinds.specs.declared.Answer.the-variants.{Done, Begun, Wrote, Vacuumed, Listed}
+use Rattle.kinds.specs.declared.ReadAnswer.{ReadAnswer}
+use Rattle.kinds.specs.Sizes.{Sizes, READS, WRITES}
+use Rattle.kinds.specs.Lists.{keep}
+use Rattle.kinds.specs.Versions.{at, versionAt}
+use Rattle.kinds.specs.Slots.{Rec, slotOf, Slot, addRecs, write, Write, emptied}
 use Rattle.rules.specs.Memory.{Mem, withSlot, wordsAt, sizeR, headAt, free, slotAt, clock}
 use Rattle.rules.specs.Chain.{After, goesOn, broken, ends}
 use Rattle.rules.specs.Snapshot.{vacant}
@@ -26,7 +26,8 @@ use Rattle.rules.specs.Read.{Sight, readEnd, blocked, sees, readOut}
 use Rattle.rules.specs.Write.{writeNow, headTests, prepared, writeOut}
 use Rattle.rules.specs.Commit.{commitOut}
 use Rattle.rules.specs.Abort.{abortOut, news}
-use Rattle.rules.specs.Vacuum.{swept, vacuumNow, reclaimable, vacuumOut}
+use Rattle.rules.specs.Vacuum.{swept, vacuumNow, vacuumOut}
+use Rattle.kinds.specs.Versions.{reclaimable}
 use Rattle.rules.specs.Lookup.{Found, lookupEnd, stopped, got, lookupOut, candidateTests, lookupAllOut}
 use Rattle.rules.specs.Run.{read, vacuum, lookup, lookupAll, commit, abort, begin, create, step, Call, run}
 use Rattle.rules.specs.History.{ended, Log, whoIn, began, ifDone, ifBegun, restarts, logged, rowsIn, cellsIn, wrote, Val, ifWrote, made, writesIn, viewIn, GoesOn, logOf}

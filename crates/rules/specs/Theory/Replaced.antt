@@ -6,11 +6,11 @@ use mathlib.Core.Option.{some}
 use mathlib.Core.Path.{_≡_, _∙_, sym, subst, refl}
 use Prim.Native.Nat.{ℕ, _<_}
 use lib.ListN.{getD}
-use Rattle.rules.specs.Sizes.{Sizes}
-use Rattle.rules.specs.Versions.{at, versionAt}
-use Rattle.rules.specs.Slots.{Slot, Write}
+use Rattle.kinds.specs.Sizes.{Sizes}
+use Rattle.kinds.specs.Versions.{at, versionAt}
+use Rattle.kinds.specs.Slots.{Slot, Write}
 use Rattle.rules.specs.Memory.{Mem, headAt, slotAt}
-use Rattle.rules.specs.Visible.{visible}
+use Rattle.kinds.specs.Visible.{visible}
 use Rattle.rules.specs.Read.{sees}
 use Rattle.rules.specs.Reachable.{All, seesAt}
 use Rattle.rules.specs.Theory.View.{View, viewOf, get-slots}

@@ -7,9 +7,9 @@ use Prim.Native.Nat.{ℕ, _+_}
 use native.Mathlib.Omega.{arith}
 use lib.ListN.{getD, set}
 use lib.Seq.{getD-set-same, getD-set-other}
-use Rattle.rules.specs.Versions.{at}
-use Rattle.rules.specs.Slots.{Write, Rec, Slot}
-use Rattle.rules.specs.Visible.{creatorVisible}
+use Rattle.kinds.specs.Versions.{at}
+use Rattle.kinds.specs.Slots.{Write, Rec, Slot}
+use Rattle.kinds.specs.Visible.{creatorVisible}
 use Rattle.rules.specs.Abort.{news}
 use Rattle.rules.specs.History.{Val}
 use Rattle.rules.specs.Reachable.{All}

@@ -6,11 +6,11 @@ use mathlib.Core.Path.{_≡_, refl, sym}
 use Prim.Native.Nat.{ℕ, suc}
 use lib.Dec.{eqb}
 use borrow.Author.Tests.{eqb-true, not-false}
-use Rattle.rules.specs.declared.Answer.{Answer}
-use Rattle.rules.specs.declared.Answer.the-variants.{Begun, Done, Wrote, Vacuumed, Listed}
-use Rattle.rules.specs.Sizes.{Sizes, Roomy}
+use Rattle.kinds.specs.declared.Answer.{Answer}
+use Rattle.kinds.specs.declared.Answer.the-variants.{Begun, Done, Wrote, Vacuumed, Listed}
+use Rattle.kinds.specs.Sizes.{Sizes, Roomy}
 use Rattle.rules.specs.Numbers.{badSize}
-use Rattle.rules.specs.Lists.{orElse}
+use Rattle.kinds.specs.Lists.{orElse}
 use Rattle.rules.specs.Memory.{Mem}
 use Rattle.rules.specs.Outcome.{fits, Outcome, refuse, test}
 use Rattle.rules.specs.Create.{created, createOut}

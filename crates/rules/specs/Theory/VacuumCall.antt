@@ -9,18 +9,19 @@ use native.Mathlib.Omega.{arith}
 use lib.Dec.{eqb, ltb}
 use lib.ListN.{getD, take, set}
 use borrow.Author.Tests.{ne-eqb, eqb-false, not-true, ltb-true, leb-false}
-use Rattle.rules.specs.declared.Answer.{Answer}
-use Rattle.rules.specs.Sizes.{Sizes}
-use Rattle.rules.specs.Lists.{least, fold, nonzero, keep}
-use Rattle.rules.specs.Versions.{at, emptyVersion, versionAt}
-use Rattle.rules.specs.Slots.{Slot, slotOf}
+use Rattle.kinds.specs.declared.Answer.{Answer}
+use Rattle.kinds.specs.Sizes.{Sizes}
+use Rattle.kinds.specs.Lists.{least, fold, nonzero, keep}
+use Rattle.kinds.specs.Versions.{at, emptyVersion, versionAt}
+use Rattle.kinds.specs.Slots.{Slot, slotOf}
 use Rattle.rules.specs.Memory.{Mem, clock, sizeN, headAt, withCells, free, sizeR}
-use Rattle.rules.specs.Visible.{creatorVisible}
+use Rattle.kinds.specs.Visible.{creatorVisible}
 use Rattle.rules.specs.Chain.{chain, chained, ends}
 use Rattle.rules.specs.Snapshot.{horizon, horizonOf}
 use Rattle.rules.specs.Outcome.{Outcome, refuse, storeTests, rowTest}
 use Rattle.rules.specs.Abort.{giveBack}
-use Rattle.rules.specs.Vacuum.{reclaimable, relink, swept, vacuumNow, vacuumOut}
+use Rattle.rules.specs.Vacuum.{relink, swept, vacuumNow, vacuumOut}
+use Rattle.kinds.specs.Versions.{reclaimable}
 use Rattle.rules.specs.Theory.Cases.{byBool, and-true, and-false, byEq}
 use Rattle.rules.specs.Theory.CellLaws.{HasCell}
 use Rattle.rules.specs.Theory.Shape.{SlotsOk}

@@ -7,18 +7,19 @@ use native.Mathlib.Omega.{arith}
 use lib.ListN.{getD, length}
 use lib.Seq.{getD-set-same, getD-set-other}
 use borrow.Author.Tests.{le-ltb, lt-ltb, lt-leb}
-use Rattle.rules.specs.declared.Answer.{Answer}
-use Rattle.rules.specs.declared.Answer.the-variants.{Vacuumed}
-use Rattle.rules.specs.Sizes.{Sizes}
+use Rattle.kinds.specs.declared.Answer.{Answer}
+use Rattle.kinds.specs.declared.Answer.the-variants.{Vacuumed}
+use Rattle.kinds.specs.Sizes.{Sizes}
 use Rattle.rules.specs.Numbers.{resultFull}
-use Rattle.rules.specs.Lists.{keep, fold}
-use Rattle.rules.specs.Versions.{versionAt, valueOf, at}
+use Rattle.kinds.specs.Lists.{keep, fold}
+use Rattle.kinds.specs.Versions.{versionAt, valueOf, at}
 use Rattle.rules.specs.Memory.{Mem, withCells, sizeR}
 use Rattle.rules.specs.Chain.{Chain, ends}
 use Rattle.rules.specs.Snapshot.{horizon}
 use Rattle.rules.specs.Outcome.{out, guard, refuse, storeTests, rowTest, Outcome}
 use Rattle.rules.specs.Abort.{giveBack}
-use Rattle.rules.specs.Vacuum.{reclaimable, relink, reports, swept, vacuumNow, vacuumOut}
+use Rattle.rules.specs.Vacuum.{relink, reports, swept, vacuumNow, vacuumOut}
+use Rattle.kinds.specs.Versions.{reclaimable}
 use Rattle.rules.specs.Reachable.{chainAt, Swept, sweeps, behind, bare}
 use Rattle.rules.specs.Theory.View.{viewOf}
 use Rattle.rules.specs.Theory.Inv.{Hist, Spelled, nexts}

@@ -6,12 +6,12 @@ use mathlib.Core.Path.{_≡_, refl, ap, _∙_, sym, subst}
 use Prim.Native.Nat.{ℕ, _<_, suc}
 use lib.ListN.{getD}
 use borrow.Author.Tests.{ne-eqb, lt-ltb}
-use Rattle.rules.specs.declared.Version.{Version}
-use Rattle.rules.specs.Sizes.{Sizes}
-use Rattle.rules.specs.Versions.{at, versionAt}
-use Rattle.rules.specs.Slots.{Slot, Rec}
+use Rattle.kinds.specs.declared.Version.{Version}
+use Rattle.kinds.specs.Sizes.{Sizes}
+use Rattle.kinds.specs.Versions.{at, versionAt}
+use Rattle.kinds.specs.Slots.{Slot, Rec}
 use Rattle.rules.specs.Memory.{Mem, headAt, slotAt}
-use Rattle.rules.specs.Visible.{creatorVisible}
+use Rattle.kinds.specs.Visible.{creatorVisible}
 use Rattle.rules.specs.Reachable.{All}
 use Rattle.rules.specs.Validation.{Stands}
 use Rattle.rules.specs.Theory.Cases.{byEq, and-true}

@@ -10,10 +10,10 @@ use lib.Dec.{eqb}
 use lib.ListN.{take, getD, set, length}
 use lib.Seq.{getD-set-same, getD-set-other}
 use borrow.Author.Tests.{eq-eqb, ne-eqb}
-use Rattle.rules.specs.declared.Version.{Version}
-use Rattle.rules.specs.Sizes.{Sizes, ACTIVE, WRITES, READS}
-use Rattle.rules.specs.Versions.{versionAt, linkAt, putCell}
-use Rattle.rules.specs.Slots.{rec, Slot, slotOf, words, threes, write}
+use Rattle.kinds.specs.declared.Version.{Version}
+use Rattle.kinds.specs.Sizes.{Sizes, ACTIVE, WRITES, READS}
+use Rattle.kinds.specs.Versions.{versionAt, linkAt, putCell}
+use Rattle.kinds.specs.Slots.{rec, Slot, slotOf, words, threes, write}
 use Rattle.rules.specs.Memory.{free, clock, Mem, headAt}
 use Rattle.rules.specs.Theory.Cases.{byEq}
 use Rattle.rules.specs.Theory.SlotLaws.{newSlot, capped-zero}

@@ -8,15 +8,15 @@ use Prim.Native.Nat.{ℕ, _<_, _≤_, suc}
 use native.Mathlib.Omega.{arith}
 use lib.ListN.{getD}
 use borrow.Author.Tests.{eqb-true, not-false, ne-eqb, ltb-false, leb-false, eqb-false}
-use Rattle.rules.specs.declared.Answer.{Answer}
-use Rattle.rules.specs.declared.Version.{Version}
-use Rattle.rules.specs.Sizes.{Sizes, WRITES}
+use Rattle.kinds.specs.declared.Answer.{Answer}
+use Rattle.kinds.specs.declared.Version.{Version}
+use Rattle.kinds.specs.Sizes.{Sizes, WRITES}
 use Rattle.rules.specs.Numbers.{damaged}
-use Rattle.rules.specs.Lists.{first}
-use Rattle.rules.specs.Versions.{lockedByOther, at, versionAt, unlocked, withValue}
-use Rattle.rules.specs.Slots.{Write, Slot}
+use Rattle.kinds.specs.Lists.{first}
+use Rattle.kinds.specs.Versions.{lockedByOther, at, versionAt, unlocked, withValue}
+use Rattle.kinds.specs.Slots.{Write, Slot}
 use Rattle.rules.specs.Memory.{Mem, sizeR, slotAt, headAt, sizeN, wordsAt, free}
-use Rattle.rules.specs.Visible.{visible}
+use Rattle.kinds.specs.Visible.{visible}
 use Rattle.rules.specs.Outcome.{Outcome, refuse, test, isCell, slotTests, rowTest}
 use Rattle.rules.specs.Read.{own}
 use Rattle.rules.specs.Write.{prepared, writeNow, headTests, replaced, writeOut}

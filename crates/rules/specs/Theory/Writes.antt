@@ -7,10 +7,10 @@ use Prim.Native.Nat.{ℕ, _+_, _<_}
 use native.Mathlib.Omega.{arith}
 use lib.ListN.{getD}
 use borrow.Author.Tests.{ne-eqb, eq-eqb}
-use Rattle.rules.specs.declared.Version.{Version}
-use Rattle.rules.specs.Lists.{first}
-use Rattle.rules.specs.Versions.{at, newVersion}
-use Rattle.rules.specs.Slots.{Write, write}
+use Rattle.kinds.specs.declared.Version.{Version}
+use Rattle.kinds.specs.Lists.{first}
+use Rattle.kinds.specs.Versions.{at, newVersion}
+use Rattle.kinds.specs.Slots.{Write, write}
 use Rattle.rules.specs.Abort.{news}
 use Rattle.rules.specs.History.{Val, said}
 use Rattle.rules.specs.Theory.Cases.{byEq}

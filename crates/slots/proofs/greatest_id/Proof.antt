@@ -1,17 +1,13 @@
-use Rattle.rules.specs.Lists.{greatest}
+use Rattle.kinds.specs.Lists.{greatest}
 use Rattle.slots.specs.OccupiedLaws.{rest, greatest-turn, greatest-end}
-use Rattle.rules.specs.Sizes.{base, ID}
-use lib.ListN.{length, getD, drop, take}
-use Prim.Native.Nat.{_+_, _-_, _≤_, _<_, min, max}
-use mathlib.Core.Path.{_≡_, refl, sym, ap, _∙_}
+use Rattle.kinds.specs.Sizes.{base, ID}
+use lib.ListN.{length}
+use Prim.Native.Nat.{_+_, _-_, _≤_, min, max}
+use mathlib.Core.Path.{_≡_, sym, ap, _∙_}
 use native.Mathlib.Omega.{arith}
 use borrow.Author.Needs.{needs}
 use Rattle.slots.proofs.greatest_id.Statement.{statement}
 use Rattle.slots.proofs.greatest_id.Tie as tie
-use Rattle.slots.proofs.greatest_id.Reads as reads
-use Rattle.slots.proofs.greatest_id.Lts as lts
-use Rattle.slots.proofs.raised.Reads as raised-reads
-use Rattle.slots.proofs.slots_in.Reads as slots-in-reads
 
 abbrev Inv-loop : tie.InvT-loop
 Inv-loop slots n top₀ i₀ top i =
@@ -20,39 +16,30 @@ Inv-loop slots n top₀ i₀ top i =
 abbrev μ-loop : tie.MeasureT-loop
 μ-loop slots n top₀ i₀ top i = n - i
 
--- src/lib.rt:89:9
 slots-in-requires : tie.Need-slots-in-requires Inv-loop μ-loop
 slots-in-requires c κs = search needs
 
--- src/lib.rt:92:5
 loop-holds : tie.Need-loop-holds Inv-loop μ-loop
 loop-holds c = (c .slots-in .ensures, omega arith, omega arith)
 
--- src/lib.rt:93:22
 mul-raised : tie.Need-mul-raised Inv-loop μ-loop
 mul-raised c = search needs
 
--- src/lib.rt:93:22
 shared-slice-element-raised : tie.Need-shared-slice-element-raised Inv-loop μ-loop
 shared-slice-element-raised c = omega arith
 
--- src/lib.rt:93:9
 raised-requires : tie.Need-raised-requires Inv-loop μ-loop
 raised-requires c κs = search needs
 
--- src/lib.rt:94:9
 add-i : tie.Need-add-i Inv-loop μ-loop
 add-i c = omega arith
 
--- src/lib.rt:92:5
 loop-less : tie.Need-loop-less Inv-loop μ-loop
 loop-less c = omega arith
 
--- src/lib.rt:92:5
 loop-again : tie.Need-loop-again Inv-loop μ-loop
 loop-again c = (c .before .before .before .loop .inv .0, omega arith, ap (λ x. max x (greatest (rest ID (base .slots) (c .before .before .before .before .before .args .slots .now) (c .before .before .before .loop .i + 1)))) (c .raised .ensures) ∙ greatest-turn ID (base .slots) (c .before .before .before .before .before .args .slots .now) (c .before .before .before .loop .i) (c .before .before .before .loop .top) (omega arith) ∙ c .before .before .before .loop .inv .2)
 
--- src/lib.rt:86:1
 returns : tie.Need-returns Inv-loop μ-loop
 returns c = sym (greatest-end ID (base .slots) (c .before .before .before .args .slots .now) (c .before .loop .i) (c .before .loop .top) (omega arith)) ∙ c .before .loop .inv .2
 

@@ -1,30 +1,23 @@
-use Rattle.rules.specs.Snapshot.{occupied, horizonOf, snapTop}
-use Rattle.rules.specs.Lists.{least}
-use Rattle.rules.specs.Sizes.{base, ID, LOW}
+use Rattle.rules.specs.Snapshot.{occupied, horizonOf}
+use Rattle.kinds.specs.Lists.{least}
+use Rattle.kinds.specs.Sizes.{base, LOW}
 use lib.ListN.{take}
 use native.Mathlib.Omega.{arith}
-use mathlib.Core.Path.{sym, ap, _∙_}
+use mathlib.Core.Path.{ap, _∙_}
 use borrow.Author.Needs.{needs}
 use Rattle.slots.proofs.horizon.Statement.{statement}
 use Rattle.slots.proofs.horizon.Tie as tie
-use Rattle.slots.proofs.horizon.Reads as reads
-use Rattle.slots.proofs.horizon.Lts as lts
-use Rattle.slots.proofs.least_word.Reads as least-word-reads
 
--- src/lib.rt:129:9
 least-word-requires : tie.Need-least-word-requires
 least-word-requires c κs = search needs
 
--- src/lib.rt:129:9
 returns : tie.Need-returns
 unfolding horizonOf
 returns c = c .least-word .ensures ∙ ap (λ x. least x (occupied LOW (take (base .slots) (c .before .before .args .slots .now)))) (omega arith)
 
--- src/lib.rt:131:5
 least-word-requires-2 : tie.Need-least-word-requires-2
 least-word-requires-2 c κs = search needs
 
--- src/lib.rt:125:1
 returns-2 : tie.Need-returns-2
 unfolding horizonOf
 returns-2 c = c .least-word2 .ensures ∙ ap (λ x. least x (occupied LOW (take (base .slots) (c .before .before .args .slots .now)))) (omega arith)

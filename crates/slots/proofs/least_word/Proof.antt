@@ -1,17 +1,13 @@
-use Rattle.rules.specs.Lists as L
+use Rattle.kinds.specs.Lists as L
 use Rattle.slots.specs.OccupiedLaws.{rest, least-turn, least-end}
-use Rattle.rules.specs.Sizes.{base}
-use lib.ListN.{length, getD, drop, take}
-use Prim.Native.Nat.{_+_, _-_, _≤_, _<_, min, max}
+use Rattle.kinds.specs.Sizes.{base}
+use lib.ListN.{length}
+use Prim.Native.Nat.{_+_, _-_, _≤_, min}
 use mathlib.Core.Path.{_≡_, refl, sym, ap, _∙_}
 use native.Mathlib.Omega.{arith}
 use borrow.Author.Needs.{needs}
 use Rattle.slots.proofs.least_word.Statement.{statement}
 use Rattle.slots.proofs.least_word.Tie as tie
-use Rattle.slots.proofs.least_word.Reads as reads
-use Rattle.slots.proofs.least_word.Lts as lts
-use Rattle.slots.proofs.lowered.Reads as lowered-reads
-use Rattle.slots.proofs.slots_in.Reads as slots-in-reads
 
 abbrev Inv-loop : tie.InvT-loop
 Inv-loop slots word ceiling n least₀ i₀ low i =
@@ -20,39 +16,30 @@ Inv-loop slots word ceiling n least₀ i₀ low i =
 abbrev μ-loop : tie.MeasureT-loop
 μ-loop slots word ceiling n least₀ i₀ low i = n - i
 
--- src/lib.rt:49:9
 slots-in-requires : tie.Need-slots-in-requires Inv-loop μ-loop
 slots-in-requires c κs = search needs
 
--- src/lib.rt:52:5
 loop-holds : tie.Need-loop-holds Inv-loop μ-loop
 loop-holds c = (c .slots-in .ensures, omega arith, refl)
 
--- src/lib.rt:53:25
 mul-lowered : tie.Need-mul-lowered Inv-loop μ-loop
 mul-lowered c = search needs
 
--- src/lib.rt:53:25
 shared-slice-element-lowered : tie.Need-shared-slice-element-lowered Inv-loop μ-loop
 shared-slice-element-lowered c = omega arith
 
--- src/lib.rt:53:9
 lowered-requires : tie.Need-lowered-requires Inv-loop μ-loop
 lowered-requires c κs = search needs
 
--- src/lib.rt:54:9
 add-i : tie.Need-add-i Inv-loop μ-loop
 add-i c = omega arith
 
--- src/lib.rt:52:5
 loop-less : tie.Need-loop-less Inv-loop μ-loop
 loop-less c = omega arith
 
--- src/lib.rt:52:5
 loop-again : tie.Need-loop-again Inv-loop μ-loop
 loop-again c = (c .before .before .before .loop .inv .0, omega arith, ap (λ x. L.least x (rest (c .before .before .before .before .before .args .word) (base .slots) (c .before .before .before .before .before .args .slots .now) (c .before .before .before .loop .i + 1))) (c .lowered .ensures) ∙ least-turn (c .before .before .before .before .before .args .word) (base .slots) (c .before .before .before .before .before .args .slots .now) (c .before .before .before .loop .i) (c .before .before .before .loop .least) (omega arith) ∙ c .before .before .before .loop .inv .2)
 
--- src/lib.rt:45:1
 returns : tie.Need-returns Inv-loop μ-loop
 returns c = sym (least-end (c .before .before .before .args .word) (base .slots) (c .before .before .before .args .slots .now) (c .before .loop .i) (c .before .loop .least) (omega arith)) ∙ c .before .loop .inv .2
 

@@ -1,44 +1,34 @@
 use Rattle.rules.specs.Snapshot.{occupied}
-use Rattle.rules.specs.Lists.{least}
+use Rattle.kinds.specs.Lists.{least}
 use native.Mathlib.Omega.{arith}
-use borrow.Author.Tests.{eq-eqb, ne-eqb, lt-ltb, le-ltb}
+use borrow.Author.Tests.{eq-eqb, ne-eqb}
 use borrow.Author.Needs.{needs}
 use Rattle.slots.proofs.lowered.Statement.{statement}
 use Rattle.slots.proofs.lowered.Tie as tie
-use Rattle.slots.proofs.lowered.Reads as reads
-use Rattle.slots.proofs.lowered.Lts as lts
 
--- src/lib.rt:35:8
 element-copy-out-if1 : tie.Need-element-copy-out-if1
 element-copy-out-if1 c = search needs
 
--- src/lib.rt:36:9
 returns : tie.Need-returns
 unfolding least occupied
 returns c = rw (eq-eqb _ _ (c .if1 .taken))
 
--- src/lib.rt:38:8
 mul-if2 : tie.Need-mul-if2
 mul-if2 c = search needs
 
--- src/lib.rt:38:8
 element-copy-out-if2 : tie.Need-element-copy-out-if2
 element-copy-out-if2 c = search needs
 
--- src/lib.rt:39:16
 mul-result : tie.Need-mul-result
 mul-result c = search needs
 
--- src/lib.rt:39:16
 element-copy-out-result : tie.Need-element-copy-out-result
 element-copy-out-result c = search needs
 
--- src/lib.rt:39:9
 returns-2 : tie.Need-returns-2
 unfolding least occupied
 returns-2 c = rw (ne-eqb _ _ (c .before .before .before .if1 .left)) (omega arith)
 
--- src/lib.rt:31:1
 returns-3 : tie.Need-returns-3
 unfolding least occupied
 returns-3 c = rw (ne-eqb _ _ (c .before .before .if1 .left)) (omega arith)

@@ -1,16 +1,13 @@
 use Rattle.rules.specs.Snapshot.{vacant}
 use Rattle.slots.specs.OccupiedLaws.{vacant-found, vacant-turn, vacant-end}
-use Rattle.rules.specs.Sizes.{base}
-use lib.ListN.{length, getD, drop, take}
-use Prim.Native.Nat.{_+_, _-_, _≤_, _<_, min, max}
-use mathlib.Core.Path.{_≡_, refl, sym, ap, _∙_}
+use Rattle.kinds.specs.Sizes.{base}
+use lib.ListN.{length, drop, take}
+use Prim.Native.Nat.{_+_, _-_, _≤_, min}
+use mathlib.Core.Path.{_≡_}
 use native.Mathlib.Omega.{arith}
 use borrow.Author.Needs.{needs}
 use Rattle.slots.proofs.lowest_empty.Statement.{statement}
 use Rattle.slots.proofs.lowest_empty.Tie as tie
-use Rattle.slots.proofs.lowest_empty.Reads as reads
-use Rattle.slots.proofs.lowest_empty.Lts as lts
-use Rattle.slots.proofs.slots_in.Reads as slots-in-reads
 
 abbrev Inv-loop : tie.InvT-loop
 Inv-loop slots n i₀ i =
@@ -19,43 +16,33 @@ Inv-loop slots n i₀ i =
 abbrev μ-loop : tie.MeasureT-loop
 μ-loop slots n i₀ i = n - i
 
--- src/lib.rt:63:9
 slots-in-requires : tie.Need-slots-in-requires Inv-loop μ-loop
 slots-in-requires c κs = search needs
 
--- src/lib.rt:65:5
 loop-holds : tie.Need-loop-holds Inv-loop μ-loop
 loop-holds c = (c .slots-in .ensures, omega arith, omega arith)
 
--- src/lib.rt:66:12
 mul-if1 : tie.Need-mul-if1 Inv-loop μ-loop
 mul-if1 c = search needs
 
--- src/lib.rt:66:12
 index-1-if1 : tie.Need-index-1-if1 Inv-loop μ-loop
 index-1-if1 c = search needs
 
--- src/lib.rt:66:12
 index-2-if1 : tie.Need-index-2-if1 Inv-loop μ-loop
 index-2-if1 c = search needs
 
--- src/lib.rt:67:13
 returns : tie.Need-returns Inv-loop μ-loop
 returns c = omega (arith, vacant-found (base .slots) (c .before .before .before .before .before .args .slots .now) (c .before .before .before .loop .i) (omega arith) (c .if1 .taken), c .before .before .before .loop .inv .2)
 
--- src/lib.rt:69:9
 add-i : tie.Need-add-i Inv-loop μ-loop
 add-i c = omega arith
 
--- src/lib.rt:65:5
 loop-less : tie.Need-loop-less Inv-loop μ-loop
 loop-less c = omega arith
 
--- src/lib.rt:65:5
 loop-again : tie.Need-loop-again Inv-loop μ-loop
 loop-again c = (c .before .before .before .loop .inv .0, omega arith, omega (arith, vacant-turn (base .slots) (c .before .before .before .before .before .args .slots .now) (c .before .before .before .loop .i) (omega arith) (c .if1 .left), c .before .before .before .loop .inv .2))
 
--- src/lib.rt:60:1
 returns-2 : tie.Need-returns-2 Inv-loop μ-loop
 returns-2 c = omega (arith, vacant-end (base .slots) (c .before .before .before .args .slots .now) (c .before .loop .i) (omega arith), c .before .loop .inv .2)
 

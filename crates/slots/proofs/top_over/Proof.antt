@@ -1,31 +1,22 @@
 use mathlib.Core.Path.{sym}
 use Rattle.slots.specs.OccupiedLaws.{top-low}
-use mathlib.Core.Bool.{cond}
 use native.Mathlib.Omega.{arith}
-use borrow.Author.Tests.{eq-eqb, ne-eqb, lt-ltb, le-ltb}
-use borrow.Author.Needs.{needs}
+use borrow.Author.Tests.{eq-eqb, ne-eqb}
 use Rattle.slots.proofs.top_over.Statement.{statement}
 use Rattle.slots.proofs.top_over.Tie as tie
-use Rattle.slots.proofs.top_over.Reads as reads
-use Rattle.slots.proofs.top_over.Lts as lts
 
--- src/lib.rt:104:9
 returns : tie.Need-returns
 returns c = sym (top-low _ _ (c .if1 .taken))
 
--- src/lib.rt:107:9
 returns-2 : tie.Need-returns-2
 returns-2 c = rw (eq-eqb _ _ (c .if2 .taken))
 
--- src/lib.rt:110:9
 returns-3 : tie.Need-returns-3
 returns-3 c = rw (ne-eqb _ _ (c .before .if2 .left)) (omega arith)
 
--- src/lib.rt:112:5
 add-result : tie.Need-add-result
 add-result c = omega arith
 
--- src/lib.rt:100:1
 returns-4 : tie.Need-returns-4
 returns-4 c = rw (ne-eqb _ _ (c .before .if2 .left)) (omega arith)
 

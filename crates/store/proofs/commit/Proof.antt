@@ -1,60 +1,44 @@
 use Rattle.ends.specs.CommitRest.{commit-split}
 use Rattle.gate.specs.FineLaws.{slot-fine}
 use Rattle.store.specs.Tested.{tested-refused, tested-fine}
-use mathlib.Core.Path.{sym, ap, _∙_}
+use mathlib.Core.Path.{sym, _∙_}
 use borrow.Author.Needs.{needs}
 use Rattle.store.proofs.commit.Statement.{statement}
 use Rattle.store.proofs.commit.Tie as tie
-use Rattle.store.proofs.commit.Reads as reads
-use Rattle.store.proofs.commit.Lts as lts
-use Rattle.ends.proofs.commit.Reads as commit-reads
-use Rattle.gate.proofs.check_slot.Reads as check-slot-reads
 
--- src/lib.rt:158:11
 check-slot-requires : tie.Need-check-slot-requires
 check-slot-requires c κs = search needs
 
--- src/lib.rt:159:28
 enum-known-number : tie.Need-enum-known-number
 enum-known-number c = search needs
 
--- src/lib.rt:160:45
 enum-told : tie.Need-enum-told
 enum-told c = search needs
 
--- src/lib.rt:160:26
 commit-requires : tie.Need-commit-requires
 commit-requires c κs = slot-fine _ _ _ (sym (c .before .before .before .before .before .check-slot .ensures) ∙ c .before .before .before .enum-told .given .1)
 
--- src/lib.rt:148:1
 same-length : tie.Need-same-length
 same-length c = search needs
 
--- src/lib.rt:148:1
 same-length-2 : tie.Need-same-length-2
 same-length-2 c = search needs
 
--- src/lib.rt:148:1
 same-length-3 : tie.Need-same-length-3
 same-length-3 c = search needs
 
--- src/lib.rt:148:1
 returns : tie.Need-returns
 returns c = tested-refused _ _ _ _ (commit-split _ _ _) _ _ (sym (c .before .before .before .check-slot .ensures) ∙ c .before .number .given .1)
 
--- src/lib.rt:148:1
 same-length-4 : tie.Need-same-length-4
 same-length-4 c = search needs
 
--- src/lib.rt:148:1
 same-length-5 : tie.Need-same-length-5
 same-length-5 c = search needs
 
--- src/lib.rt:148:1
 same-length-6 : tie.Need-same-length-6
 same-length-6 c = search needs
 
--- src/lib.rt:148:1
 returns-2 : tie.Need-returns-2
 returns-2 c = c .before .before .before .before .commit .ensures ∙ tested-fine _ _ _ _ (commit-split _ _ _) (sym (c .before .before .before .before .before .before .before .before .before .before .check-slot .ensures) ∙ c .before .before .before .before .before .before .before .before .enum-told .given .1)
 

@@ -1,48 +1,35 @@
 use Rattle.lookup.specs.LookupRest.{lookup-all-split}
 use Rattle.gate.specs.FineLaws.{slot-fine}
 use Rattle.store.specs.Tested.{tested-refused, tested-fine, told-over, told-refused}
-use mathlib.Core.Path.{sym, ap, _∙_}
+use mathlib.Core.Path.{sym, _∙_}
 use borrow.Author.Needs.{needs}
 use Rattle.store.proofs.lookup_all.Statement.{statement}
 use Rattle.store.proofs.lookup_all.Tie as tie
-use Rattle.store.proofs.lookup_all.Reads as reads
-use Rattle.store.proofs.lookup_all.Lts as lts
-use Rattle.gate.proofs.check_slot.Reads as check-slot-reads
-use Rattle.lookup.proofs.lookup_all.Reads as lookup-all-reads
 
--- src/lib.rt:246:11
 check-slot-requires : tie.Need-check-slot-requires
 check-slot-requires c κs = search needs
 
--- src/lib.rt:247:28
 enum-known-number : tie.Need-enum-known-number
 enum-known-number c = search needs
 
--- src/lib.rt:248:64
 enum-told : tie.Need-enum-told
 enum-told c = search needs
 
--- src/lib.rt:248:26
 lookup-all-requires : tie.Need-lookup-all-requires
 lookup-all-requires c κs = slot-fine _ _ _ (sym (c .before .before .before .before .check-slot .ensures) ∙ c .before .before .enum-told .given .1)
 
--- src/lib.rt:231:1
 same-length : tie.Need-same-length
 same-length c = search needs
 
--- src/lib.rt:231:1
 returns : tie.Need-returns
 returns c = told-refused _ _ _ _ _ (tested-refused _ _ _ _ (lookup-all-split _ _ _ _ _) _ _ (sym (c .before .before .before .check-slot .ensures) ∙ c .before .number .given .1))
 
--- src/lib.rt:231:1
 same-length-2 : tie.Need-same-length-2
 same-length-2 c = search needs
 
--- src/lib.rt:231:1
 same-length-3 : tie.Need-same-length-3
 same-length-3 c = search needs
 
--- src/lib.rt:231:1
 returns-2 : tie.Need-returns-2
 returns-2 c = told-over _ _ _ _ _ _ (tested-fine _ _ _ _ (lookup-all-split _ _ _ _ _) (sym (c .before .before .before .before .before .before .before .before .check-slot .ensures) ∙ c .before .before .before .before .before .before .enum-told .given .1)) (c .before .before .before .lookup-all .ensures .outcome, c .before .before .before .lookup-all .ensures .buffer)
 

@@ -1,45 +1,32 @@
 use Rattle.access.specs.ReadRest.{read-split}
 use Rattle.gate.specs.FineLaws.{slot-fine}
 use Rattle.store.specs.Tested.{tested-refused, tested-fine}
-use mathlib.Core.Path.{sym, ap, _∙_}
-use native.Mathlib.Omega.{arith}
+use mathlib.Core.Path.{sym, _∙_}
 use borrow.Author.Needs.{needs}
 use Rattle.store.proofs.read.Statement.{statement}
 use Rattle.store.proofs.read.Tie as tie
-use Rattle.store.proofs.read.Reads as reads
-use Rattle.store.proofs.read.Lts as lts
-use Rattle.access.proofs.read.Reads as read-reads
-use Rattle.gate.proofs.check_slot.Reads as check-slot-reads
 
--- src/lib.rt:111:11
 check-slot-requires : tie.Need-check-slot-requires
 check-slot-requires c κs = search needs
 
--- src/lib.rt:112:28
 enum-known-number : tie.Need-enum-known-number
 enum-known-number c = search needs
 
--- src/lib.rt:113:58
 enum-told : tie.Need-enum-told
 enum-told c = search needs
 
--- src/lib.rt:113:26
 read-requires : tie.Need-read-requires
 read-requires c κs = slot-fine _ _ _ (sym (c .before .before .before .check-slot .ensures) ∙ c .before .enum-told .given .1)
 
--- src/lib.rt:100:1
 same-length : tie.Need-same-length
 same-length c = search needs
 
--- src/lib.rt:100:1
 returns : tie.Need-returns
 returns c = tested-refused _ _ _ _ (read-split _ _ _ _) _ _ (sym (c .before .before .before .check-slot .ensures) ∙ c .before .number .given .1)
 
--- src/lib.rt:100:1
 same-length-2 : tie.Need-same-length-2
 same-length-2 c = search needs
 
--- src/lib.rt:100:1
 returns-2 : tie.Need-returns-2
 returns-2 c = c .before .read .ensures ∙ tested-fine _ _ _ _ (read-split _ _ _ _) (sym (c .before .before .before .before .before .check-slot .ensures) ∙ c .before .before .before .enum-told .given .1)
 

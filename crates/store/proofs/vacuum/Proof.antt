@@ -1,56 +1,41 @@
 use Rattle.vacuum.specs.Rest.{vacuum-split}
 use Rattle.gate.specs.FineLaws.{store-fine}
 use Rattle.store.specs.Tested.{tested-refused, tested-fine, told-over, told-refused}
-use mathlib.Core.Path.{sym, ap, _∙_}
+use mathlib.Core.Path.{sym, _∙_}
 use borrow.Author.Needs.{needs}
 use Rattle.store.proofs.vacuum.Statement.{statement}
 use Rattle.store.proofs.vacuum.Tie as tie
-use Rattle.store.proofs.vacuum.Reads as reads
-use Rattle.store.proofs.vacuum.Lts as lts
-use Rattle.gate.proofs.check_store.Reads as check-store-reads
-use Rattle.vacuum.proofs.vacuum.Reads as vacuum-reads
 
--- src/lib.rt:200:11
 check-store-requires : tie.Need-check-store-requires
 check-store-requires c κs = search needs
 
--- src/lib.rt:201:28
 enum-known-number : tie.Need-enum-known-number
 enum-known-number c = search needs
 
--- src/lib.rt:202:41
 enum-told : tie.Need-enum-told
 enum-told c = search needs
 
--- src/lib.rt:202:26
 vacuum-requires : tie.Need-vacuum-requires
 vacuum-requires c κs = store-fine _ (sym (c .before .before .before .before .before .check-store .ensures) ∙ c .before .before .before .enum-told .given .1)
 
--- src/lib.rt:186:1
 same-length : tie.Need-same-length
 same-length c = search needs
 
--- src/lib.rt:186:1
 same-length-2 : tie.Need-same-length-2
 same-length-2 c = search needs
 
--- src/lib.rt:186:1
 returns : tie.Need-returns
 returns c = told-refused _ _ _ _ _ (tested-refused _ _ _ _ (vacuum-split _ _ _ _) _ _ (sym (c .before .before .before .check-store .ensures) ∙ c .before .number .given .1))
 
--- src/lib.rt:186:1
 same-length-3 : tie.Need-same-length-3
 same-length-3 c = search needs
 
--- src/lib.rt:186:1
 same-length-4 : tie.Need-same-length-4
 same-length-4 c = search needs
 
--- src/lib.rt:186:1
 same-length-5 : tie.Need-same-length-5
 same-length-5 c = search needs
 
--- src/lib.rt:186:1
 returns-2 : tie.Need-returns-2
 returns-2 c = told-over _ _ _ _ _ _ (tested-fine _ _ _ _ (vacuum-split _ _ _ _) (sym (c .before .before .before .before .before .before .before .before .before .before .check-store .ensures) ∙ c .before .before .before .before .before .before .before .before .enum-told .given .1)) (c .before .before .before .before .vacuum .ensures)
 

@@ -1,8 +1,8 @@
 -- Each change asks for what `Sweepable` says, of the arenas as the change before it left them.
 use Rattle.vacuum.specs.Sweeping.{sweep-report, sweep-relink, sweep-reported, sweep-room, sweep-cells, sweep-done}
-use Rattle.rules.specs.Versions.{valueOf}
-use Rattle.rules.specs.declared.Answer.the-variants.{Vacuumed}
-use Rattle.rules.specs.declared.Version.{Version}
+use Rattle.kinds.specs.Versions.{valueOf}
+use Rattle.kinds.specs.declared.Answer.the-variants.{Vacuumed}
+use Rattle.kinds.specs.declared.Version.{Version}
 use mathlib.Core.Path.{ap, _∙_}
 use borrow.Author.Needs.{needs}
 use Rattle.vacuum.proofs.sweep.Statement.{statement}

@@ -2,8 +2,8 @@
 use Rattle.validate.specs.TestLaws.{lent, sized, tests-done, tests-stop, tests-next}
 use Rattle.rules.specs.Verdicts.{verdict}
 use Rattle.rules.specs.Outcome.{each}
-use Rattle.rules.specs.Slots.{slotOf, threes, write}
-use Rattle.rules.specs.Sizes.{base}
+use Rattle.kinds.specs.Slots.{slotOf, threes, write}
+use Rattle.kinds.specs.Sizes.{base}
 use Rattle.rules.specs.Commit.{baseTests}
 use Prim.Native.Nat.{_+_, _*_, _-_, _≤_}
 use mathlib.Core.Path.{_≡_, sym, _∙_}

@@ -1,6 +1,6 @@
 -- Each way out is one line of the rule of validation.
-use Rattle.rules.specs.Slots.{slotOf}
-use Rattle.rules.specs.Visible.{conflict}
+use Rattle.kinds.specs.Slots.{slotOf}
+use Rattle.kinds.specs.Visible.{conflict}
 use borrow.Author.Tests.{eq-eqb, ne-eqb, le-leb, lt-leb}
 use borrow.Author.Needs.{needs}
 use Rattle.validate.proofs.is_conflict.Statement.{statement}

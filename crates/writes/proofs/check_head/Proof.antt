@@ -1,57 +1,42 @@
 use Rattle.writes.specs.HeadLaws.{head-harmed, head-none, head-locked, head-unseen, head-fine}
-use Rattle.rules.specs.Visible.{visible}
-use Rattle.rules.specs.Versions.{lockedByOther}
+use Rattle.kinds.specs.Visible.{visible}
+use Rattle.kinds.specs.Versions.{lockedByOther}
 use Rattle.rules.specs.Memory.{mem}
-use Rattle.rules.specs.Slots.{slotOf}
-use Rattle.rules.specs.Sizes.{base}
-use Rattle.rules.specs.declared.Version.{Version}
+use Rattle.kinds.specs.Slots.{slotOf}
+use Rattle.kinds.specs.Sizes.{base}
+use Rattle.kinds.specs.declared.Version.{Version}
 use mathlib.Core.List.{[]}
 use mathlib.Core.Path.{sym, ap, _∙_}
-use borrow.Author.Tests.{eq-eqb, ne-eqb, lt-ltb, le-ltb, le-leb, lt-leb, not-true, not-false}
+use borrow.Author.Tests.{not-true, not-false}
 use native.Mathlib.Omega.{arith}
 use borrow.Author.Needs.{needs}
 use Rattle.writes.proofs.check_head.Statement.{statement}
 use Rattle.writes.proofs.check_head.Tie as tie
-use Rattle.writes.proofs.check_head.Reads as reads
-use Rattle.writes.proofs.check_head.Lts as lts
-use Rattle.arena.proofs.version_at.Reads as version-at-reads
-use Rattle.rules.proofs.Version.is_locked_by_other.Reads as is-locked-by-other-reads
-use Rattle.rules.proofs.Version.is_visible.Reads as is-visible-reads
-use Rattle.writes.proofs.saved.Reads as saved-reads
 
--- src/lib.rt:58:8
 saved-requires : tie.Need-saved-requires
 saved-requires c κs = search needs
 
--- src/lib.rt:59:9
 returns : tie.Need-returns
 returns c = sym (head-harmed (mem {z = base} (c .before .before .before .before .args .meta .now) [] (c .before .before .before .before .args .cells .now) []) (slotOf base (c .before .before .before .before .args .slot .now)) (c .before .before .before .before .args .id .0) (c .before .before .before .before .args .row) (c .before .before .before .before .args .head .0) (omega (arith, c .before .before .saved .ensures, c .if1 .taken)))
 
--- src/lib.rt:62:9
 returns-2 : tie.Need-returns-2
 returns-2 c = sym (head-none (mem {z = base} (c .before .before .before .before .before .before .args .meta .now) [] (c .before .before .before .before .before .before .args .cells .now) []) (slotOf base (c .before .before .before .before .before .before .args .slot .now)) (c .before .before .before .before .before .before .args .id .0) (c .before .before .before .before .before .before .args .row) (c .before .before .before .before .before .before .args .head .0) (omega (arith, c .before .before .before .before .saved .ensures, c .before .before .if1 .left)) (c .if2 .taken))
 
--- src/lib.rt:64:9
 version-at-requires : tie.Need-version-at-requires
 version-at-requires c κs = search needs
 
--- src/lib.rt:65:8
 is-locked-by-other-requires : tie.Need-is-locked-by-other-requires
 is-locked-by-other-requires c κs = search needs
 
--- src/lib.rt:66:9
 returns-3 : tie.Need-returns-3
 returns-3 c = sym (head-locked (mem {z = base} (c .before .before .before .before .before .before .before .before .before .args .meta .now) [] (c .before .before .before .before .before .before .before .before .before .args .cells .now) []) (slotOf base (c .before .before .before .before .before .before .before .before .before .args .slot .now)) (c .before .before .before .before .before .before .before .before .before .args .id .0) (c .before .before .before .before .before .before .before .before .before .args .row) (c .before .before .before .before .before .before .before .before .before .args .head .0) (omega (arith, c .before .before .before .before .before .before .before .saved .ensures, c .before .before .before .before .before .if1 .left)) (c .before .before .before .if2 .left) (ap (λ (v : Version). lockedByOther v (c .before .before .before .before .before .before .before .before .before .args .id .0)) (sym (c .before .before .version-at .ensures)) ∙ sym (c .before .is-locked-by-other .ensures) ∙ c .if3 .taken))
 
--- src/lib.rt:68:9
 is-visible-requires : tie.Need-is-visible-requires
 is-visible-requires c κs = search needs
 
--- src/lib.rt:69:9
 returns-4 : tie.Need-returns-4
 returns-4 c = sym (head-unseen (mem {z = base} (c .before .before .before .before .before .before .before .before .before .before .before .args .meta .now) [] (c .before .before .before .before .before .before .before .before .before .before .before .args .cells .now) []) (slotOf base (c .before .before .before .before .before .before .before .before .before .before .before .args .slot .now)) (c .before .before .before .before .before .before .before .before .before .before .before .args .id .0) (c .before .before .before .before .before .before .before .before .before .before .before .args .row) (c .before .before .before .before .before .before .before .before .before .before .before .args .head .0) (omega (arith, c .before .before .before .before .before .before .before .before .before .saved .ensures, c .before .before .before .before .before .before .before .if1 .left)) (c .before .before .before .before .before .if2 .left) (ap (λ (v : Version). lockedByOther v (c .before .before .before .before .before .before .before .before .before .before .before .args .id .0)) (sym (c .before .before .before .before .version-at .ensures)) ∙ sym (c .before .before .before .is-locked-by-other .ensures) ∙ c .before .before .if3 .left) (ap (visible (slotOf base (c .before .before .before .before .before .before .before .before .before .before .before .args .slot .now))) (sym (c .before .before .before .before .version-at .ensures)) ∙ sym (c .before .is-visible .ensures) ∙ not-true _ (c .if4 .taken)))
 
--- src/lib.rt:48:1
 returns-5 : tie.Need-returns-5
 returns-5 c = sym (head-fine (mem {z = base} (c .before .before .before .before .before .before .before .before .before .before .before .args .meta .now) [] (c .before .before .before .before .before .before .before .before .before .before .before .args .cells .now) []) (slotOf base (c .before .before .before .before .before .before .before .before .before .before .before .args .slot .now)) (c .before .before .before .before .before .before .before .before .before .before .before .args .id .0) (c .before .before .before .before .before .before .before .before .before .before .before .args .row) (c .before .before .before .before .before .before .before .before .before .before .before .args .head .0) (omega (arith, c .before .before .before .before .before .before .before .before .before .saved .ensures, c .before .before .before .before .before .before .before .if1 .left)) (c .before .before .before .before .before .if2 .left) (ap (λ (v : Version). lockedByOther v (c .before .before .before .before .before .before .before .before .before .before .before .args .id .0)) (sym (c .before .before .before .before .version-at .ensures)) ∙ sym (c .before .before .before .is-locked-by-other .ensures) ∙ c .before .before .if3 .left) (ap (visible (slotOf base (c .before .before .before .before .before .before .before .before .before .before .before .args .slot .now))) (sym (c .before .before .before .before .version-at .ensures)) ∙ sym (c .before .is-visible .ensures) ∙ not-false _ (c .if4 .left)))
 

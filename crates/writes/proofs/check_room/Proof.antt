@@ -1,44 +1,33 @@
 use Rattle.rules.specs.Verdicts.{verdict}
-use Rattle.rules.specs.Sizes.{base, WRITES, FREE, CELLS}
+use Rattle.kinds.specs.Sizes.{base, WRITES, FREE, CELLS}
 use lib.ListN.{getD}
-use mathlib.Core.Path.{sym, ap, _∙_}
-use borrow.Author.Tests.{eq-eqb, ne-eqb, lt-ltb, le-ltb, le-leb, lt-leb, not-true, not-false}
+use borrow.Author.Tests.{eq-eqb, ne-eqb, lt-ltb, le-ltb, le-leb, lt-leb}
 use native.Mathlib.Omega.{arith}
 use borrow.Author.Needs.{needs}
 use Rattle.writes.proofs.check_room.Statement.{statement}
 use Rattle.writes.proofs.check_room.Tie as tie
-use Rattle.writes.proofs.check_room.Reads as reads
-use Rattle.writes.proofs.check_room.Lts as lts
-use Rattle.writes.proofs.saved.Reads as saved-reads
 
--- src/lib.rt:78:8
 element-copy-out-if1 : tie.Need-element-copy-out-if1
 element-copy-out-if1 c = search needs
 
--- src/lib.rt:79:9
 returns : tie.Need-returns
 unfolding verdict
 returns c = rw (le-leb (base .writes) (getD (c .before .before .before .args .slot .now) (WRITES base) 0) (c .if1 .taken))
 
--- src/lib.rt:81:9
 saved-requires : tie.Need-saved-requires
 saved-requires c κs = search needs
 
--- src/lib.rt:83:9
 returns-2 : tie.Need-returns-2
 unfolding verdict
 returns-2 c = rw (lt-leb (base .writes) (getD (c .before .before .before .before .before .args .slot .now) (WRITES base) 0) (c .before .before .if1 .left), eq-eqb (getD (c .before .before .before .before .before .args .meta .now) FREE 0) 0 (omega (arith, c .before .saved .ensures, c .if2 .taken)))
 
--- src/lib.rt:85:8
 saved-requires-2 : tie.Need-saved-requires-2
 saved-requires-2 c κs = search needs
 
--- src/lib.rt:86:9
 returns-3 : tie.Need-returns-3
 unfolding verdict
 returns-3 c = rw (lt-leb (base .writes) (getD (c .before .before .before .before .before .before .before .args .slot .now) (WRITES base) 0) (c .before .before .before .before .if1 .left), ne-eqb (getD (c .before .before .before .before .before .before .before .args .meta .now) FREE 0) 0 (λ e. c .before .before .if2 .left (omega (arith, c .before .before .before .saved .ensures, e))), lt-ltb (getD (c .before .before .before .before .before .before .before .args .meta .now) CELLS 0) (getD (c .before .before .before .before .before .before .before .args .meta .now) FREE 0) (omega (arith, c .before .before .before .saved .ensures, c .before .saved2 .ensures, c .if3 .taken)))
 
--- src/lib.rt:75:1
 returns-4 : tie.Need-returns-4
 unfolding verdict
 returns-4 c = rw (lt-leb (base .writes) (getD (c .before .before .before .before .before .before .before .args .slot .now) (WRITES base) 0) (c .before .before .before .before .if1 .left), ne-eqb (getD (c .before .before .before .before .before .before .before .args .meta .now) FREE 0) 0 (λ e. c .before .before .if2 .left (omega (arith, c .before .before .before .saved .ensures, e))), le-ltb (getD (c .before .before .before .before .before .before .before .args .meta .now) CELLS 0) (getD (c .before .before .before .before .before .before .before .args .meta .now) FREE 0) (omega (arith, c .before .before .before .saved .ensures, c .before .saved2 .ensures, c .if3 .left)))

@@ -4,22 +4,16 @@ use native.Mathlib.Omega.{arith}
 use borrow.Author.Needs.{needs}
 use Rattle.writes.proofs.saved.Statement.{statement}
 use Rattle.writes.proofs.saved.Tie as tie
-use Rattle.writes.proofs.saved.Reads as reads
-use Rattle.writes.proofs.saved.Lts as lts
 
--- src/lib.rt:42:16
 mul-result : tie.Need-mul-result
 mul-result c = search needs
 
--- src/lib.rt:42:16
 shared-slice-read-result : tie.Need-shared-slice-read-result
 shared-slice-read-result c = omega arith
 
--- src/lib.rt:42:9
 returns : tie.Need-returns
 returns c = search needs
 
--- src/lib.rt:38:1
 returns-2 : tie.Need-returns-2
 returns-2 c = sym (List·getD-eq-default (c .before .args .meta .now) 0 {n = c .before .args .i} (omega arith))
 
