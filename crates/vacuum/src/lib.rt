@@ -33,6 +33,7 @@ ghost use Rattle.gate.specs.FineLaws.{StoreFine};
 ghost use Rattle.vacuum.specs.Sweeping.{Sweepable, gone, stays};
 ghost use Rattle.vacuum.specs.Rest.{vacuumRest};
 
+// A refusal, for the places that give one in a line.
 fn refused(number: u64, value: u64) -> Answer
     ensures { λ a. ⌜ a ≡ Refused number value ⌝ }
 {
@@ -85,6 +86,7 @@ fn sweep(
     Answer::Vacuumed { count, live }
 }
 
+// The row is tested, its chain judged, the reports counted against their buffer; only then is anything changed.
 pub fn vacuum(
     meta: &mut [u64],
     rows: &[u64],
