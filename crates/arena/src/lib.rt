@@ -17,6 +17,16 @@ ghost use Rattle.rules.specs.Chain.{look};
 ghost use Rattle.rules.specs.Theory.CellLaws.{HasCell};
 ghost use Rattle.arena.specs.Sights.{sighted};
 
+// A word of a lent arena; past its end, 0.
+pub fn word_at(words: &[u64], i: usize) -> u64
+    ensures { λ r. ⌜ r ≡ getD (now (words .entry)) i 0 ⌝ }
+{
+    if i < words.len() {
+        return words[i];
+    }
+    0
+}
+
 // A cell's words, read as a version.
 fn unpacked(w: &[u64; CELL_WORDS]) -> Version
     ensures { λ r. ⌜ r ≡ versionOf (now (w .entry)) ⌝ }

@@ -22,12 +22,6 @@ ghost use Rattle.rules.specs.Snapshot.{occupied};
 ghost use Rattle.opens.specs.Gathered.{Gathered};
 ghost use Rattle.opens.specs.OpenedAt.{openedAt};
 
-fn slots_in(n: usize) -> usize
-    ensures { λ r. ⌜ r ≡ min (base .slots) n ⌝ }
-{
-    if SLOTS < n { SLOTS } else { n }
-}
-
 // The place after k where an id was put there; 0 is no id, and its place is taken again.
 fn place_after(k: usize, id: u64) -> usize
     requires { ⌜ k ≤ base .slots ⌝ }
@@ -41,7 +35,7 @@ pub fn gather(slots: &[[u64; WIDTH]], ids: &mut [u64]) -> usize
     requires { ⌜ base .slots ≤ length (now ids) ⌝ }
     ensures { λ r. ⌜ Gathered (now (slots .entry)) (now (ids .exit)) r ⌝ }
 {
-    let n = slots_in(slots.len());
+    let n = slots::slots_in(slots.len());
     let mut k = 0;
     let mut i = 0;
     while i < n {

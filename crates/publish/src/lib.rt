@@ -17,13 +17,6 @@ ghost use Rattle.rules.specs.Commit as rule;
 ghost use Rattle.rules.specs.Theory.Bridge.{WriteIn, AllIn};
 ghost use Rattle.publish.specs.PublishLaws.{lent};
 
-// A count above its limit reads as the limit.
-fn at_most(x: u64, most: u64) -> u64
-    ensures { λ r. ⌜ r ≡ min x most ⌝ }
-{
-    if x < most { x } else { most }
-}
-
 // The base, where there is one, is superseded by this id and unlocked.
 fn mark_base(cells: &mut [[u64; CELL_WORDS]], base: Cell, id: TxId)
     requires { ⌜ base .0 ≤ length (now cells) ⌝ }
@@ -63,7 +56,7 @@ pub fn publish_all(rows: &mut [u64], cells: &mut [[u64; CELL_WORDS]], slot: &[u6
     ensures { λ _. ⌜ lent (now (rows .exit)) (now (cells .exit))
         ≡ rule.publishAll (id .0) (slotOf base (now (slot .entry)) .writes) (lent (now (rows .entry)) (now (cells .entry))) ⌝ }
 {
-    let mut left = at_most(slot[WRITES], MOST_WRITES as u64);
+    let mut left = kinds::at_most(slot[WRITES], MOST_WRITES as u64);
     let mut a = WRITES + 1;
     while left > 0 {
         publish_one(

@@ -105,12 +105,7 @@ pub fn add_record(slot: &mut [u64; WIDTH], row: u64, c: Cell, xmin: TxId)
     requires { ⌜ getD (now slot) (words.READS base) 0 < base .reads ⌝ }
     ensures { λ _. ⌜ now (slot .exit) ≡ addRec base (rec row (c .0) (xmin .0)) (now (slot .entry)) ⌝ }
 {
-    let count = slot[READS];
-    let e = READS + 1 + 3 * (count as usize);
-    slot[e] = row;
-    slot[e + 1] = c.0;
-    slot[e + 2] = xmin.0;
-    slot[READS] = count + 1;
+    lists::push(slot, READS, row, c.0, xmin.0);
 }
 
 // What a read of one row comes to: a refusal; a cell with nothing to record (cell 0 is no version); a cell that is to be recorded.

@@ -15,6 +15,7 @@ pub mod Run
 pub mod WholeRun
 pub mod Lent
 pub mod Verdicts
+pub mod TestLaws
 pub mod History
 pub mod Reachable
 pub mod Listing

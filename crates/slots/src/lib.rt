@@ -21,7 +21,8 @@ pub struct Snapshot {
     pub top: u64,
 }
 
-fn slots_in(n: usize) -> usize
+// How many of the lent slots count.
+pub fn slots_in(n: usize) -> usize
     ensures { λ r. ⌜ r ≡ min (base .slots) n ⌝ }
 {
     if SLOTS < n { SLOTS } else { n }

@@ -26,13 +26,6 @@ ghost use Rattle.rules.specs.Theory.Bridge.{BasesIn, AllCells};
 ghost use Rattle.undo.specs.UndoLaws.{lent};
 
 // Paper 01's number for damage, the one refusal that an abort can come to after its slot.
-// A count above its limit reads as the limit.
-fn at_most(x: u64, most: u64) -> u64
-    ensures { λ r. ⌜ r ≡ min x most ⌝ }
-{
-    if x < most { x } else { most }
-}
-
 // The store's N; 0 where the arena is too short to say it.
 fn cell_count(meta: &[u64]) -> u64
     ensures { λ r. ⌜ r ≡ getD (now (meta .entry)) words.CELLS 0 ⌝ }
@@ -73,7 +66,7 @@ pub fn check_abort(meta: &[u64], slot: &[u64; WIDTH]) -> Verdict
     ensures { λ r. ⌜ r ≡ verdict (each (abortTests (lent (now (meta .entry)) [])) (slotOf base (now (slot .entry)) .writes)) ⌝ }
 {
     let n = cell_count(meta);
-    let mut left = at_most(slot[WRITES], MOST_WRITES as u64);
+    let mut left = kinds::at_most(slot[WRITES], MOST_WRITES as u64);
     let mut a = WRITES + 1;
     while left > 0 {
         let found = check_entry(n, Cell(slot[a + 1]), Cell(slot[a + 2]));
@@ -107,7 +100,7 @@ pub fn unlock_all(cells: &mut [[u64; CELL_WORDS]], slot: &[u64; WIDTH], id: TxId
     requires { ⌜ BasesIn (now cells) (slotOf base (now slot) .writes) ⌝ }
     ensures { λ _. ⌜ now (cells .exit) ≡ fold (unlockBase (id .0)) (slotOf base (now (slot .entry)) .writes) (now (cells .entry)) ⌝ }
 {
-    let mut left = at_most(slot[WRITES], MOST_WRITES as u64);
+    let mut left = kinds::at_most(slot[WRITES], MOST_WRITES as u64);
     let mut a = WRITES + 1;
     while left > 0 {
         unlock_base(cells, Cell(slot[a + 1]), id);
@@ -123,7 +116,7 @@ pub fn give_all(meta: &mut [u64], cells: &mut [[u64; CELL_WORDS]], slot: &[u64; 
     ensures { λ _. ⌜ lent (now (meta .exit)) (now (cells .exit))
         ≡ fold giveBack (news (slotOf base (now (slot .entry)) .writes)) (lent (now (meta .entry)) (now (cells .entry))) ⌝ }
 {
-    let mut left = at_most(slot[WRITES], MOST_WRITES as u64);
+    let mut left = kinds::at_most(slot[WRITES], MOST_WRITES as u64);
     let mut a = WRITES + 1;
     while left > 0 {
         give_back(meta, cells, Cell(slot[a + 2]));

@@ -20,7 +20,7 @@ use Rattle.rules.specs.Theory.Bridge.{AllIn}
 use Rattle.rules.specs.Theory.Cases.{byBool}
 use Rattle.rules.specs.Theory.Good.{cell-in}
 use Rattle.rules.specs.Theory.Guard.{Passed, passed-split}
-use Rattle.validate.specs.TestLaws.{lent}
+use Rattle.validate.specs.Arenas.{lent}
 
 module _ {z : Sizes} (m : Mem z) (t : Slot) where
   -- the three judgements, one after the other

@@ -1,2 +1,2 @@
-pub mod TestLaws
+pub mod Arenas
 pub mod CommitLaws

@@ -21,7 +21,6 @@ use kinds::WRITES;
 use kinds::is_active;
 ghost use mathlib.Core.Path.{_≡_};
 ghost use mathlib.Core.List.{[]};
-ghost use Prim.Native.Nat.{min};
 ghost use lib.ListN.{getD};
 ghost use Rattle.kinds.specs.Sizes.{base};
 ghost use Rattle.kinds.specs.Slots.{slotOf, write, rec};
@@ -29,25 +28,7 @@ ghost use Rattle.kinds.specs.Visible.{conflict};
 ghost use Rattle.rules.specs.Outcome.{each};
 ghost use Rattle.rules.specs.Verdicts.{verdict};
 ghost use Rattle.rules.specs.Commit.{recordTests, baseTests, newTests, commitTests};
-ghost use Rattle.validate.specs.TestLaws.{lent, sized};
-
-// Paper 01's numbers for the refusals that a commit can come to.
-// A count above its limit reads as the limit.
-fn at_most(x: u64, most: u64) -> u64
-    ensures { λ r. ⌜ r ≡ min x most ⌝ }
-{
-    if x < most { x } else { most }
-}
-
-// A word of an arena; past its end, 0.
-fn word_at(arena: &[u64], i: usize) -> u64
-    ensures { λ r. ⌜ r ≡ getD (now (arena .entry)) i 0 ⌝ }
-{
-    if i < arena.len() {
-        return arena[i];
-    }
-    0
-}
+ghost use Rattle.validate.specs.Arenas.{lent, sized};
 
 // Validation of one version against the xmin that was recorded for it.
 fn is_conflict(slot: &[u64; WIDTH], v: Version, xmin: TxId) -> bool
@@ -110,8 +91,8 @@ pub fn check_records(meta: &[u64], cells: &[[u64; CELL_WORDS]], slot: &[u64; WID
         (each (recordTests (lent (now (meta .entry)) [] (now (cells .entry))) (slotOf base (now (slot .entry))))
         (slotOf base (now (slot .entry)) .recs)) ⌝ }
 {
-    let n = word_at(meta, CELLS);
-    let mut left = at_most(slot[READS], MOST_READS as u64);
+    let n = arena::word_at(meta, CELLS);
+    let mut left = kinds::at_most(slot[READS], MOST_READS as u64);
     let mut a = READS + 1;
     while left > 0 {
         let found = check_record(
@@ -149,7 +130,7 @@ fn check_base(
             value: 0,
         };
     }
-    if word_at(rows, row as usize) != b {
+    if arena::word_at(rows, row as usize) != b {
         return Verdict::Refused {
             number: WRITE_CONFLICT,
             value: row,
@@ -185,9 +166,9 @@ pub fn check_bases(
         (each (baseTests (lent (now (meta .entry)) (now (rows .entry)) (now (cells .entry))))
         (slotOf base (now (slot .entry)) .writes)) ⌝ }
 {
-    let r = word_at(meta, ROWS);
-    let n = word_at(meta, CELLS);
-    let mut left = at_most(slot[WRITES], MOST_WRITES as u64);
+    let r = arena::word_at(meta, ROWS);
+    let n = arena::word_at(meta, CELLS);
+    let mut left = kinds::at_most(slot[WRITES], MOST_WRITES as u64);
     let mut a = WRITES + 1;
     while left > 0 {
         let found = check_base(rows, cells, r, n, slot[a], Cell(slot[a + 1]));
@@ -223,8 +204,8 @@ fn check_new(n: u64, new: Cell) -> Verdict
 pub fn check_news(meta: &[u64], slot: &[u64; WIDTH]) -> Verdict
     ensures { λ r. ⌜ r ≡ verdict (each (newTests (lent (now (meta .entry)) [] [])) (slotOf base (now (slot .entry)) .writes)) ⌝ }
 {
-    let n = word_at(meta, CELLS);
-    let mut left = at_most(slot[WRITES], MOST_WRITES as u64);
+    let n = arena::word_at(meta, CELLS);
+    let mut left = kinds::at_most(slot[WRITES], MOST_WRITES as u64);
     let mut a = WRITES + 1;
     while left > 0 {
         let found = check_new(n, Cell(slot[a + 2]));

@@ -29,16 +29,6 @@ ghost use Rattle.rules.specs.Verdicts.{verdict};
 ghost use Rattle.rules.specs.Theory.CellLaws.{HasCell};
 ghost use Rattle.writes.specs.Room.{roomTests};
 
-// A saved word; 0 where the header is too short to hold it.
-fn saved(meta: &[u64], i: usize) -> u64
-    ensures { λ r. ⌜ r ≡ getD (now (meta .entry)) i 0 ⌝ }
-{
-    if i < meta.len() {
-        return meta[i];
-    }
-    0
-}
-
 // The row has no own entry: may its head be the base of one?
 pub fn check_head(
     meta: &[u64],
@@ -50,7 +40,7 @@ pub fn check_head(
 ) -> Verdict
     ensures { λ r. ⌜ r ≡ verdict (headTests (mem {z = base} (now (meta .entry)) [] (now (cells .entry)) []) (slotOf base (now (slot .entry))) (id .0) row (head .0)) ⌝ }
 {
-    if saved(meta, CELLS) < head.0 {
+    if arena::word_at(meta, CELLS) < head.0 {
         return Verdict::Refused {
             number: DAMAGED,
             value: 0,
@@ -85,14 +75,14 @@ pub fn check_room(meta: &[u64], slot: &[u64; WIDTH]) -> Verdict
             value: 0,
         };
     }
-    let free = saved(meta, FREE);
+    let free = arena::word_at(meta, FREE);
     if free == 0 {
         return Verdict::Refused {
             number: NO_ROOM,
             value: 0,
         };
     }
-    if saved(meta, CELLS) < free {
+    if arena::word_at(meta, CELLS) < free {
         return Verdict::Refused {
             number: DAMAGED,
             value: 0,
@@ -148,10 +138,5 @@ pub fn add_entry(slot: &mut [u64; WIDTH], row: u64, head: Cell, new: Cell)
     requires { ⌜ getD (now slot) (words.WRITES base) 0 < base .writes ⌝ }
     ensures { λ _. ⌜ now (slot .exit) ≡ addWrite base (write row (head .0) (new .0)) (now (slot .entry)) ⌝ }
 {
-    let count = slot[WRITES];
-    let e = WRITES + 1 + 3 * (count as usize);
-    slot[e] = row;
-    slot[e + 1] = head.0;
-    slot[e + 2] = new.0;
-    slot[WRITES] = count + 1;
+    lists::push(slot, WRITES, row, head.0, new.0);
 }

@@ -4,7 +4,7 @@ use lib.ListN.{getD}
 use Rattle.kinds.specs.Sizes.{base}
 use Rattle.kinds.specs.Slots.{slotOf}
 use Rattle.rules.specs.Verdicts.{verdict}
-use Rattle.validate.specs.TestLaws as L
+use Rattle.validate.specs.Arenas as L
 use Rattle.validate.specs.CommitLaws.{commit-whole, fine-writes}
 use Rattle.publish.specs.PublishLaws as Q
 use Rattle.publish.specs.PublishLaws.{publish-whole}

@@ -1,5 +1,5 @@
 -- The invariant: the entries that are left judge as all do. The measure is how many are left.
-use Rattle.undo.specs.TestLaws.{tests-done, tests-stop, tests-next}
+use Rattle.rules.specs.TestLaws.{tests-done, tests-stop, tests-next}
 use Rattle.undo.specs.UndoLaws.{lent}
 use Rattle.rules.specs.Abort.{abortTests}
 use Rattle.rules.specs.Verdicts.{verdict}

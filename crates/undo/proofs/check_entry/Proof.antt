@@ -1,6 +1,6 @@
 -- Each way out is the first of an entry's tests that fails, or none.
 use Rattle.rules.specs.Verdicts.{verdict}
-use Rattle.undo.specs.TestLaws.{no-cell, past-cell, some-cell}
+use Rattle.rules.specs.TestLaws.{no-cell, past-cell, some-cell}
 use borrow.Author.Tests.{lt-ltb, le-ltb}
 use Rattle.undo.proofs.check_entry.Statement.{statement}
 use Rattle.undo.proofs.check_entry.Tie as tie

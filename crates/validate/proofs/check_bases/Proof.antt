@@ -1,5 +1,6 @@
 -- The invariant: the writes that are left judge as all do. The measure is how many are left.
-use Rattle.validate.specs.TestLaws.{lent, sized, tests-done, tests-stop, tests-next}
+use Rattle.rules.specs.TestLaws.{tests-done, tests-stop, tests-next}
+use Rattle.validate.specs.Arenas.{lent, sized}
 use Rattle.rules.specs.Verdicts.{verdict}
 use Rattle.rules.specs.Outcome.{each}
 use Rattle.kinds.specs.Slots.{slotOf, threes, write}

@@ -1,6 +1,6 @@
 -- Each way out is a new cell that is 0, past N, or there.
 use Rattle.rules.specs.Verdicts.{verdict}
-use Rattle.validate.specs.TestLaws.{no-cell, past-cell, some-cell}
+use Rattle.rules.specs.TestLaws.{no-cell, past-cell, some-cell}
 use Rattle.validate.proofs.check_new.Statement.{statement}
 use Rattle.validate.proofs.check_new.Tie as tie
 

@@ -1,6 +1,6 @@
 -- Each way out is the first of a record's tests that fails, or none.
 use Rattle.rules.specs.Verdicts.{verdict}
-use Rattle.validate.specs.TestLaws.{no-cell, past-cell, some-cell}
+use Rattle.rules.specs.TestLaws.{no-cell, past-cell, some-cell}
 use borrow.Author.Needs.{needs}
 use Rattle.validate.proofs.check_record.Statement.{statement}
 use Rattle.validate.proofs.check_record.Tie as tie

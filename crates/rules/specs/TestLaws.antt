@@ -1,27 +1,17 @@
--- The tests of a commit, member by member: what a loop over a slot's list knows where it is refused, goes on and ends.
+-- Tests over a slot's list, entry by entry: what a loop knows where it is refused, goes on and ends.
 use Prim.Native.Nat.{ℕ, _+_, _-_, _<_, _≤_}
 use mathlib.Core.Bool.{true, false, not}
-use mathlib.Core.List.{List, [], _∷_}
+use mathlib.Core.List.{List}
 use mathlib.Core.Path.{_≡_, sym, ap, _∙_}
 use mathlib.Core.Logic.{_≢_}
 use lib.ListN.{getD}
 use borrow.Author.Tests.{eq-eqb, ne-eqb, le-leb, lt-leb}
 use Rattle.kinds.specs.declared.Verdict.{Verdict}
 use Rattle.kinds.specs.declared.Verdict.the-variants.{Fine, Refused}
-use Rattle.kinds.specs.Sizes.{base}
 use Rattle.kinds.specs.Slots.{threes}
-use Rattle.rules.specs.Memory.{Mem, mem}
 use Rattle.rules.specs.Outcome.{Test, each, isCell}
 use Rattle.rules.specs.Verdicts.{verdict, andThen, verdict-none, verdict-each}
 use Rattle.kinds.specs.WordLaws.{threes-step, threes-done}
-
--- the arenas that a commit's tests look at; they look at no other slot, so that a whole memory is tested alike
-abbrev pub lent : List ℕ → List ℕ → List (List ℕ) → Mem base
-lent meta rows cells = mem meta rows cells []
-
--- the same, of a store of r rows and n cells
-abbrev pub sized : ℕ → ℕ → List ℕ → List (List ℕ) → Mem base
-sized r n rows cells = lent (r ∷ n ∷ []) rows cells
 
 -- a list of triples, tested in order
 module _ {A : Type 0} (mk : ℕ → ℕ → ℕ → A) (f : A → List Test) (t : List ℕ) (a k : ℕ) where

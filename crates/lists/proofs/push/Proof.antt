@@ -2,8 +2,11 @@ use Rattle.kinds.specs.Slots.{push}
 use mathlib.Core.Path.{refl}
 use native.Mathlib.Omega.{arith}
 use borrow.Author.Needs.{needs}
-use Rattle.reads.proofs.add_record.Statement.{statement}
-use Rattle.reads.proofs.add_record.Tie as tie
+use Rattle.lists.proofs.push.Statement.{statement}
+use Rattle.lists.proofs.push.Tie as tie
+
+mul-count : tie.Need-mul-count
+mul-count c = search needs
 
 element-copy-out-count : tie.Need-element-copy-out-count
 element-copy-out-count c = search needs
@@ -44,6 +47,9 @@ element-write-slot-3 c = search needs
 add-slot-3 : tie.Need-add-slot-3
 add-slot-3 c = omega arith
 
+mul-slot-4 : tie.Need-mul-slot-4
+mul-slot-4 c = search needs
+
 element-write-slot-4 : tie.Need-element-write-slot-4
 element-write-slot-4 c = search needs
 
@@ -51,10 +57,11 @@ returns : tie.Need-returns
 unfolding push
 returns c = refl
 
-pub add-record-spec : {M : Type 1} → statement M
-add-record-spec =
+pub push-spec : {M : Type 1} → statement M
+push-spec =
     tie.close
     (tie.spec
+    mul-count
     element-copy-out-count
     add-e
     mul-e
@@ -68,5 +75,6 @@ add-record-spec =
     mul-slot-3
     element-write-slot-3
     add-slot-3
+    mul-slot-4
     element-write-slot-4
     returns)
