@@ -1,0 +1,51 @@
+use borrow.Author.Needs.{needs}
+use Prim.Native.Nat.{_-_}
+use Rattle.bench.proofs.changes.tell_cells.Statement.{statement}
+use Rattle.bench.proofs.changes.tell_cells.Tie as tie
+use Rattle.bench.proofs.changes.cell_words.Reads as cell-words-reads
+use Rattle.bench.proofs.changes.tell_column.Reads as tell-column-reads
+
+abbrev Inv-loop : tie.InvT-loop
+Inv-loop before now was₀ is₀ k₀ was is k = Unit {0}
+
+abbrev μ-loop : tie.MeasureT-loop
+μ-loop before now was₀ is₀ k₀ was is k = 8 - k
+
+loop-holds : tie.Need-loop-holds Inv-loop μ-loop
+loop-holds c = tt
+
+cell-words-requires : tie.Need-cell-words-requires Inv-loop μ-loop
+cell-words-requires c κs = search needs
+
+cell-words-requires-2 : tie.Need-cell-words-requires-2 Inv-loop μ-loop
+cell-words-requires-2 c κs = search needs
+
+tell-column-requires : tie.Need-tell-column-requires Inv-loop μ-loop
+tell-column-requires c κs = search needs
+
+add-k : tie.Need-add-k Inv-loop μ-loop
+add-k c = search needs
+
+loop-less : tie.Need-loop-less Inv-loop μ-loop
+loop-less c = search needs
+
+loop-again : tie.Need-loop-again Inv-loop μ-loop
+loop-again c = tt
+
+returns : tie.Need-returns Inv-loop μ-loop
+returns c = search needs
+
+pub tell-cells-spec : {M : Type 1} → statement M
+tell-cells-spec =
+    tie.close
+    (tie.spec
+    Inv-loop
+    μ-loop
+    loop-holds
+    cell-words-requires
+    cell-words-requires-2
+    tell-column-requires
+    add-k
+    loop-less
+    loop-again
+    returns)

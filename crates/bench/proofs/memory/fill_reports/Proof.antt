@@ -1,0 +1,49 @@
+use borrow.Author.Needs.{needs}
+use Prim.Native.Nat.{_-_}
+use Rattle.bench.proofs.memory.fill_reports.Statement.{statement}
+use Rattle.bench.proofs.memory.fill_reports.Tie as tie
+
+abbrev Inv-loop : tie.InvT-loop
+Inv-loop reports₀ lent x y i₀ reports i = Unit {0}
+
+abbrev μ-loop : tie.MeasureT-loop
+μ-loop reports₀ lent x y i₀ reports i = lent - i
+
+loop-holds : tie.Need-loop-holds Inv-loop μ-loop
+loop-holds c = tt
+
+returns : tie.Need-returns Inv-loop μ-loop
+returns c = search needs
+
+mul-t9 : tie.Need-mul-t9 Inv-loop μ-loop
+mul-t9 c = search needs
+
+element-set-from-reports : tie.Need-element-set-from-reports Inv-loop μ-loop
+element-set-from-reports c = search needs
+
+add-i : tie.Need-add-i Inv-loop μ-loop
+add-i c = search needs
+
+loop-less : tie.Need-loop-less Inv-loop μ-loop
+loop-less c = search needs
+
+loop-again : tie.Need-loop-again Inv-loop μ-loop
+loop-again c = tt
+
+returns-2 : tie.Need-returns-2 Inv-loop μ-loop
+returns-2 c = search needs
+
+pub fill-reports-spec : {M : Type 1} → statement M
+fill-reports-spec =
+    tie.close
+    (tie.spec
+    Inv-loop
+    μ-loop
+    loop-holds
+    returns
+    mul-t9
+    element-set-from-reports
+    add-i
+    loop-less
+    loop-again
+    returns-2)
