@@ -1,0 +1,3 @@
+pub mod Images
+pub mod Seen
+pub mod Transactions
