@@ -1,3 +1,11 @@
 pub mod Images
 pub mod Seen
 pub mod Transactions
+pub mod Publication
+pub mod RetentionTerms
+pub mod Chains
+pub mod Vacuums
+pub mod Protected
+pub mod Safe
+pub mod Publishes
+pub mod PreparedWrites
