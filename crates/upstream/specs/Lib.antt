@@ -1,3 +1,6 @@
+-- the shared terms
 pub mod Images
 pub mod Seen
 pub mod Transactions
+-- where our rules and upstream's agree
+pub mod Visibility
