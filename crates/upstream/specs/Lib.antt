@@ -4,3 +4,7 @@ pub mod Seen
 pub mod Transactions
 -- where our rules and upstream's agree
 pub mod Visibility
+-- what reachable stores meet
+pub mod Born
+pub mod BornCalls
+pub mod Standing
