@@ -1,6 +1,14 @@
+-- the shared terms
 pub mod Images
 pub mod Seen
 pub mod Transactions
+-- where our rules and upstream's agree
+pub mod Visibility
+-- what reachable stores meet
+pub mod Born
+pub mod BornCalls
+pub mod Standing
+-- publication and vacuum
 pub mod Publication
 pub mod RetentionTerms
 pub mod Chains
