@@ -17,3 +17,6 @@ pub mod Protected
 pub mod Safe
 pub mod Publishes
 pub mod PreparedWrites
+pub mod Story
+pub mod Native
+pub mod NativeVacuum

@@ -20,14 +20,14 @@ use Rattle.rules.specs.Memory.{Mem, sizeR, sizeN, headAt, slotAt}
 use Rattle.rules.specs.Outcome.{Outcome}
 use Rattle.rules.specs.Commit.{commitOut}
 use Rattle.rules.specs.Exactly.{In, All, NoneOf}
-use Rattle.rules.specs.Terms.{CellOf, is-cell, NoEntry}
+use Rattle.rules.specs.Terms.{NoEntry}
 use Rattle.rules.specs.Theory.Cases.{byBool, byEq}
 use Rattle.rules.specs.CommitRefuses.{commitLines, commit-refuses-exactly}
 use Rattle.rules.specs.CommitAllOrNothing.{commit-accepted-when}
 use Rattle.rules.specs.Published.{Apart}
 use Rattle.rules.specs.CommitPublishes.{commit-moves-each-head, commit-keeps-other-heads, commit-marks-each-base, commit-links-each-new, commit-keeps-other-cells, commit-keeps-the-clock}
 use Rattle.upstream.specs.Images.{Image, imageOf, stored}
-use Rattle.upstream.specs.Publication.{setRow, deleted, linked, publicationPrefix, Prepared, Same, SameButLock}
+use Rattle.upstream.specs.Publication.{setRow, deleted, linked, publicationPrefix, SameButLock}
 
 -- ---- phase 3, head by head and cell by cell
 
@@ -54,15 +54,15 @@ module _ (s : Image) (w : Write) (id : ℕ) where
       (λ e. rw (ne-eqb c (w .new) n, eq-eqb (w .base) 0 e))
       (λ e. rw (ne-eqb c (w .new) n, ne-eqb (w .base) 0 e, ne-eqb c (w .base) (b e)))
 
--- ---- an accepted commit of one prepared write
+-- ---- a commit of one write. Of all that `prepared` asks only this is left: the new cell is not the base
 
-module _ {z : Sizes} (m : Mem z) (s id : ℕ) (w : Write) (one : slotAt m s .writes ≡ w ∷ []) (ready : Prepared (imageOf m) w id) where
+module _ {z : Sizes} (m : Mem z) (s id : ℕ) (w : Write) (one : slotAt m s .writes ≡ w ∷ []) (differ : w .new ≢ w .base) where
   abbrev after : Mem z
   after = commitOut m s id .after
 
   module _ (accepted : NoneOf (commitLines m s id)) where
     apart : Apart (slotAt m s .writes)
-    apart = rw one ((λ e. ready .apart (sym e)), tt, tt)
+    apart = rw one ((λ e. differ (sym e)), tt, tt)
 
     here : In w (slotAt m s .writes)
     here = rw one (inl refl)
@@ -75,23 +75,20 @@ module _ {z : Sizes} (m : Mem z) (s id : ℕ) (w : Write) (one : slotAt m s .wri
               (λ e. phase-3-head (imageOf m) w id r e ∙ sym (commit-moves-each-head m s id accepted r w (record { before = []; after = []; parts = one; ofRow = sym e; none = tt })))
               (λ n. phase-3-other-head (imageOf m) w id r n ∙ sym (commit-keeps-other-heads m s id accepted r (rw one ((λ e. n (sym e)), tt))));
           rows = λ c n. byEq c (w .new)
-              (λ e. rw e (phase-3-new (imageOf m) w id (ready .apart) ∙ sym (commit-links-each-new m s id accepted apart w here)))
+              (λ e. rw e (phase-3-new (imageOf m) w id differ ∙ sym (commit-links-each-new m s id accepted apart w here)))
               (λ o. phase-3-else (imageOf m) w id c o (λ q. n) ∙ sym (ap versionOf (commit-keeps-other-cells m s id accepted c (rw one ((o, λ q. n), tt)))));
-          base = λ n. commit-marks-each-base m s id accepted apart w here n ∙ ap unlocked (sym (phase-3-base (imageOf m) w id (ready .apart) n));
+          base = λ n. commit-marks-each-base m s id accepted apart w here n ∙ ap unlocked (sym (phase-3-base (imageOf m) w id differ n));
           cells = phase-3-sizes (imageOf m) w id .0 ∙ ap (λ (y : List ℕ). getD y CELLS 0) (sym (commit-keeps-the-clock m s id accepted));
           capacity = phase-3-sizes (imageOf m) w id .1 ∙ ap (λ (y : List ℕ). getD y ROWS 0) (sym (commit-keeps-the-clock m s id accepted));
         }
 
     -- so it is 000's image exactly where the base was not locked
-    pub publish-prepared-write-set-exact-without-lock : (w .base ≢ 0 → unlocked (versionAt (m .cells) (w .base)) ≡ versionAt (m .cells) (w .base)) → (p : ℕ) → publicationPrefix (imageOf m) w id 3 .rows p ≡ imageOf after .rows p
-    publish-prepared-write-set-exact-without-lock free p = byEq p (w .base)
-        (λ e. byEq (w .base) 0
-        (λ b. phase-3-else (imageOf m) w id p (λ q. new-is-real (sym q ∙ e ∙ b)) (λ n. absurd (n b)) ∙ sym (ap versionOf (commit-keeps-other-cells m s id accepted p (rw one (((λ q. new-is-real (sym q ∙ e ∙ b)), λ n. absurd (n b)), tt)))))
-        (λ b. rw e (phase-3-base (imageOf m) w id (ready .apart) b ∙ ap (λ (v : Version). withXmax v id) (sym (free b)) ∙ sym (commit-marks-each-base m s id accepted apart w here b))))
+    pub publish-prepared-write-set-exact-without-lock : (w .base ≢ 0 → unlocked (versionAt (m .cells) (w .base)) ≡ versionAt (m .cells) (w .base)) → (p : ℕ) → p ≢ 0 → publicationPrefix (imageOf m) w id 3 .rows p ≡ imageOf after .rows p
+    publish-prepared-write-set-exact-without-lock free p real = byEq p (w .base)
+        (λ e.
+        let b : w .base ≢ 0 = λ q. real (e ∙ q) in
+        rw e (phase-3-base (imageOf m) w id differ b ∙ ap (λ (v : Version). withXmax v id) (sym (free b)) ∙ sym (commit-marks-each-base m s id accepted apart w here b)))
         (λ n. publish-prepared-write-set-prefix-is-whole .rows p n)
-      where
-        new-is-real : w .new ≢ 0
-        new-is-real e = let c = is-cell (sizeN m) (w .new) .yes (ready .new) in omega (arith, c .low, e)
 
   -- refused, nothing is changed: phase 0, never phase 1
   pub publish-prepared-write-set-err-is-phase-0 : (k x : ℕ) → commitOut m s id .answer ≡ Answer.Refused k x → after ≡ m
