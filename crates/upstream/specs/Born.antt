@@ -37,6 +37,10 @@ pub data On (R : ℕ) (st : View) : ℕ → Type 0 where
   head : {c : ℕ} (r : ℕ) → r < R → st .heads r ≡ c → c ≢ 0 → On R st c
   next : {c : ℕ} (d : ℕ) → On R st d → nexts st d ≡ c → c ≢ 0 → On R st c
 
+-- an open slot's snapshot xmin is not 0, an empty slot's is
+abbrev pub Lows : Slot → Type 0
+Lows t = (t .id ≢ 0 → t .low ≢ 0) × (t .id ≡ 0 → t .low ≡ 0)
+
 pub record Born (R n : ℕ) (st : View) : Type 0 where
   -- every creator was drawn from the clock
   pub past : (c : ℕ) → c ≢ 0 → c < n → minOf st c < st .clock
@@ -46,6 +50,7 @@ pub record Born (R n : ℕ) (st : View) : Type 0 where
   pub bare : (c : ℕ) → c ≢ 0 → c < n → (On R st c → ⊥) → nexts st c ≡ 0
   -- what an open transaction created stands in its write set
   pub own : (c j : ℕ) → c ≢ 0 → c < n → slotV st j .id ≢ 0 → minOf st c ≡ slotV st j .id → inSlot c (slotV st j) ≢ 0
+  pub lows : (j : ℕ) → Lows (slotV st j)
 
 -- ---- chains as lists
 
@@ -103,12 +108,14 @@ module _ (R n : ℕ) (st st′ : View) (gone : List ℕ) (hd : (r : ℕ) → st�
   back (head r lt e nz) = head r lt (sym (hd r) ∙ e) nz
   back (next d o e nz) = let b = back o in next d b (sym (kept d (off d b) .1) ∙ e) nz
 
-  pub frame : Born R n st → ((c j : ℕ) → c ≢ 0 → c < n → slotV st′ j .id ≢ 0 → minOf st′ c ≡ slotV st′ j .id → inSlot c (slotV st′ j) ≢ 0) → Born R n st′
-  frame b ow = record {
+  pub frame : Born R n st → ((c j : ℕ) → c ≢ 0 → c < n → slotV st′ j .id ≢ 0 → minOf st′ c ≡ slotV st′ j .id → inSlot c (slotV st′ j) ≢ 0)
+      → ((j : ℕ) → Lows (slotV st′ j)) → Born R n st′
+  frame b ow lw = record {
     past = λ c nz lt. byEq (cnt c gone) 0 (λ z. let e = kept c z .0 in let p = b .past c nz lt in omega arith) (λ k. new c k .0);
     real = λ c o. let k = back o in λ z. b .real c k (sym (kept c (off c k) .0) ∙ z);
     bare = λ c nz lt no. byEq (cnt c gone) 0 (λ z. kept c z .1 ∙ b .bare c nz lt (λ o. no (there o))) (λ k. new c k .1);
     own = ow;
+    lows = lw;
   }
 
 -- ---- cells given back
@@ -187,6 +194,7 @@ module _ (R n id : ℕ) (st : View) (w : Write) (k : Ready R n st w) where
         (λ q. absurd (no (subst (On R st′) (sym q) top)))
         (λ q. pub-off c q ∙ b .bare c nz lt (λ o. no (pub-there o)));
     own = λ c j nz lt op e. b .own c j nz lt op (sym (pub-min c) ∙ e);
+    lows = b .lows;
   }
 
   -- another write, of another row and cell, can be published still

@@ -10,13 +10,13 @@ use native.Mathlib.Nat.{le-of-suc-le-suc}
 use lib.Dec.{eqb, leb, ltb}
 use lib.ListN.{getD, set, length, length-append, take}
 use lib.Seq.{getD-set-same, getD-set-other}
-use borrow.Author.Tests.{leb-false, ltb-true, ltb-false, eqb-false, not-false, ne-eqb}
+use borrow.Author.Tests.{leb-false, ltb-true, ltb-false, eqb-false, not-false, eq-eqb, ne-eqb}
 use Rattle.rules.specs.declared.Answer.{Answer}
 use Rattle.rules.specs.declared.ReadAnswer.{ReadAnswer}
 use Rattle.rules.specs.declared.Version.{Version}
 use Rattle.rules.specs.Sizes.{Sizes, lastId, READS, WRITES}
 use Rattle.rules.specs.Numbers.{badSize, clockSpent, noFreeSlot, damaged}
-use Rattle.rules.specs.Lists.{fold, keep, from}
+use Rattle.rules.specs.Lists.{fold, keep, least}
 use Rattle.rules.specs.Versions.{versionAt, version, withNext, withValue, emptyVersion, keyedOf, keyOf}
 use Rattle.rules.specs.Slots.{Slot, Write, Rec, addRecs, emptied, slotOf}
 use Rattle.rules.specs.Slots as S
@@ -39,7 +39,7 @@ use Rattle.rules.specs.Theory.Cases.{byEq, byBool}
 use Rattle.rules.specs.Theory.SlotLaws.{newSlot, withRecs, withWrite, slot-emptied}
 use Rattle.rules.specs.Theory.CellLaws.{HasCell}
 use Rattle.rules.specs.Theory.View.{View, viewOf, emptySlot, get-slots, slotsOf, upd, upd-other}
-use Rattle.rules.specs.Theory.Effects.{slotV, putSlot, withVers, beginV, bornV, prepareV, publishAllV, publishV, giveAllV, lockV, unlockV, relinkV}
+use Rattle.rules.specs.Theory.Effects.{slotV, putSlot, withVers, beginV, bornV, idsV, prepareV, publishAllV, publishV, giveAllV, lockV, unlockV, relinkV}
 use Rattle.rules.specs.Theory.Bridge.{view-begin, view-recs, view-prepared, view-replaced, view-close, view-publish-all, view-give-all, unlock-vers, relink-vers, AllCells, all-cells, BasesIn, AllIn}
 use Rattle.rules.specs.Theory.Counting.{cnt, cnt-append, cnt-same, cnt-other, cnt-head, cnt-tail, sum, sum-at}
 use Rattle.rules.specs.Theory.Inv.{Hist, Inv, Ver, Spelled, nexts, inSlot, vers, verOf, Entries, ownFind}
@@ -58,18 +58,33 @@ use Rattle.rules.specs.Theory.ReadCall.{recs-count, noted-at}
 use Rattle.rules.specs.Theory.LookupCall.{Fine, found-fine, rows-below, all-rows-below}
 use Rattle.rules.specs.Theory.CommitCall.{commit-facts}
 use Rattle.rules.specs.Theory.VacuumCall.{row-chain, swept-rows, horizon-under}
-use Rattle.upstream.specs.Born.{On, Born, minOf, ofMin, Ready, Distinct, frame, on-row, row-on, on-unslot, on-unfree, on-listed, listed-on, give-gone, give-stays, give-rest, publish-all-born, head, next}
+use Rattle.upstream.specs.Born.{On, Born, Lows, minOf, ofMin, Ready, Distinct, frame, on-row, row-on, on-unslot, on-unfree, on-listed, listed-on, give-gone, give-stays, give-rest, publish-all-born, head, next}
 
 -- a slot stored: it keeps its id and its writes, or is empty
-slot-born : (R n : ℕ) (st : View) (s : ℕ) (t : Slot) → s < length (st .slots) → (t .id ≢ 0 → (t .id ≡ slotV st s .id) × (t .writes ≡ slotV st s .writes)) → Born R n st → Born R n (putSlot st s t)
+slot-born : (R n : ℕ) (st : View) (s : ℕ) (t : Slot) → s < length (st .slots) → (t .id ≢ 0 → (t .id ≡ slotV st s .id) × (t .writes ≡ slotV st s .writes)) → Lows t → Born R n st → Born R n (putSlot st s t)
 unfolding cnt
-slot-born R n st s t lt keeps b = frame R n st (putSlot st s t) [] (λ r. refl) (λ c z. (refl, refl)) (λ c nz. absurd (nz refl)) (λ c o. refl) (omega arith) b
+slot-born R n st s t lt keeps low b = frame R n st (putSlot st s t) [] (λ r. refl) (λ c z. (refl, refl)) (λ c nz. absurd (nz refl)) (λ c o. refl) (omega arith) b
     (λ c j nz le op e. byEq j s
     (λ q.
     let here : slotV (putSlot st s t) j ≡ t = rw q (getD-set-same (st .slots) s t emptySlot lt) in
     let k = keeps (rw here at op) in
     rw (here, k .1) (b .own c s nz le (λ y. op (rw here (k .0 ∙ y))) (e ∙ rw here (k .0))))
     (λ q. let there = getD-set-other (st .slots) s j t emptySlot q in rw there (b .own c j nz le (rw there at op) (rw there at e))))
+    (λ j. byEq j s (λ q. rw (q, getD-set-same (st .slots) s t emptySlot lt) low) (λ q. rw (getD-set-other (st .slots) s j t emptySlot q) (b .lows j)))
+
+none-low : Lows emptySlot
+none-low = (λ nz. absurd (nz refl), λ _. refl)
+
+-- the least of ids that are not 0 is not 0
+least-real : (c : ℕ) (l : List ℕ) → c ≢ 0 → All (λ x. x ≢ 0) l → least c l ≢ 0
+unfolding least
+least-real c [] nz a = nz
+least-real c (x ∷ l) nz a = let k = least-real c l nz (a .1) in omega (arith, a .0)
+
+ids-real : (ss : List Slot) → All (λ x. x ≢ 0) (idsV ss)
+unfolding idsV
+ids-real [] = tt
+ids-real (t ∷ l) = byEq (t .id) 0 (λ e. rw (eq-eqb (t .id) 0 e) (ids-real l)) (λ e. rw (ne-eqb (t .id) 0 e) (e, ids-real l))
 
 publish-slots : (id : ℕ) (ws : List Write) (st : View) → publishAllV id ws st .slots ≡ st .slots
 unfolding fold
@@ -94,6 +109,11 @@ few : {A B : Type 0} (f : A → B) (k : ℕ) (l : List A) → length (map f (tak
 few f zero l = omega arith
 few f (suc k) [] = omega arith
 few f (suc k) (x ∷ l) = omega (arith, few f k l)
+
+past-end : (l : List Slot) (i : ℕ) → length l ≤ i → getD l i emptySlot ≡ emptySlot
+past-end [] i h = refl
+past-end (x ∷ l) zero h = absurd (omega arith)
+past-end (x ∷ l) (suc i) h = past-end l i (omega arith)
 
 few-slots : (z : Sizes) (ss : List (List ℕ)) → length (slotsOf z ss) ≤ z .slots
 unfolding slotsOf
@@ -141,7 +161,10 @@ module _ {z : Sizes} (R N : ℕ) (m : Mem z) (h : Hist) (gd : Good R N m h) (b :
       (λ q.
       let here : slotV (beginV s st) j .id ≡ clock m = rw q (ap (λ (x : Slot). x .id) (getD-set-same (st .slots) s t emptySlot within)) in
       absurd (omega (arith, b .past c nz le, e, here)))
-      (λ q. let there = getD-set-other (st .slots) s j t emptySlot q in rw there (b .own c j nz le (rw there at op) (rw there at e)))))
+      (λ q. let there = getD-set-other (st .slots) s j t emptySlot q in rw there (b .own c j nz le (rw there at op) (rw there at e))))
+      (λ j. byEq j s
+      (λ q. rw (q, getD-set-same (st .slots) s t emptySlot within) (λ y. least-real (clock m + 1) (bornV st s) (omega arith) (ids-real (set (st .slots) s (newSlot (clock m) 0 0 []))), λ y. absurd (iv .ticking y)))
+      (λ q. rw (getD-set-other (st .slots) s j t emptySlot q) (b .lows j))))
 
   pub begin-born : Kept (beginOut m .after)
   unfolding beginOut
@@ -160,7 +183,7 @@ module _ {z : Sizes} (R N : ℕ) (m : Mem z) (h : Hist) (gd : Good R N m h) (b :
     recs-born : (l : List Rec) → Rightly z st (gd .ghost) s (slotV st s .recs ++ l) → Kept (withSlot m s (addRecs z l (wordsAt m s)))
     recs-born l a =
         let le : getD (wordsAt m s) (READS z) 0 + length l ≤ z .reads = rw (length-append (slotV st s .recs) l, recs-count R N m h gd s id o) at (a .few) in
-        rw (view-recs m s (o .slot) (gd .shaped) l le) (slot-born R (suc N) st s (withRecs (slotV st s) l) within (λ nz. (refl, refl)) b)
+        rw (view-recs m s (o .slot) (gd .shaped) l le) (slot-born R (suc N) st s (withRecs (slotV st s) l) within (λ nz. (refl, refl)) (b .lows s) b)
 
     found-born : (late : List Test) (key room : ℕ) (f : Found) → Fine R N m h gd s id o key room f → Kept (lookupEnd m s late f .after)
     unfolding lookupEnd
@@ -203,7 +226,7 @@ module _ {z : Sizes} (R N : ℕ) (m : Mem z) (h : Hist) (gd : Good R N m h) (b :
         let mins = part-same ofMin (st .vers) c u refl in
         rw (view-replaced m c v k)
         (frame R (suc N) st st′ [] (λ r. refl) (λ d y. (mins d, part-same ofNext (st .vers) c u refl d)) (λ d nz. absurd (nz refl)) (λ d o. refl) (omega arith) b
-        (λ d j nz le op e. b .own d j nz le op (sym (mins d) ∙ e)))
+        (λ d j nz le op e. b .own d j nz le op (sym (mins d) ∙ e)) (b .lows))
 
     prepared-born : (o : Owner m s id) → headAt m row ≤ sizeN m → getD (wordsAt m s) (WRITES z) 0 < z .writes → free m ≢ 0 → free m ≤ sizeN m → Kept (prepared m s id row v)
     unfolding cnt
@@ -237,7 +260,8 @@ module _ {z : Sizes} (R N : ℕ) (m : Mem z) (h : Hist) (gd : Good R N m h) (b :
         let there = getD-set-other (st .slots) s j _ emptySlot q in
         byEq c f
         (λ y. absurd (ids-differ R (suc N) st (gd .ghost) h [] s iv op j q (sym (ap (λ (t : Slot). t .id) there) ∙ sym e ∙ rw (y, sid) (part-on ofMin g f u))))
-        (λ y. rw there (b .own c j nz le (rw there at oj) (sym (kept c y .0) ∙ (rw there at e)))))))
+        (λ y. rw there (b .own c j nz le (rw there at oj) (sym (kept c y .0) ∙ (rw there at e))))))
+        (λ j. byEq j s (λ q. rw (q, getD-set-same (st .slots) s (withWrite (slotV st s) (S.write row (st .heads row) f)) emptySlot (within s id o)) (b .lows s)) (λ q. rw (getD-set-other (st .slots) s j (withWrite (slotV st s) (S.write row (st .heads row) f)) emptySlot q) (b .lows j))))
 
     now-born : Owner m s id → (x : Option Write) → Kept (writeNow m s id row v x .after)
     unfolding writeNow headTests
@@ -289,7 +313,7 @@ module _ {z : Sizes} (R N : ℕ) (m : Mem z) (h : Hist) (gd : Good R N m h) (b :
         let vw : viewOf (withSlot (publishAll id ws m) s (emptied z)) ≡ putSlot (publishAllV id ws st) s emptySlot =
         view-close (publishAll id ws m) s (o .slot) ∙ ap (λ (x : View). putSlot x s emptySlot) (view-publish-all id ws m (f .1)) in
         rw vw
-        (slot-born R (suc N) (publishAllV id ws st) s emptySlot (rw (publish-slots id ws st) (within s id o)) (λ nz. absurd (nz refl))
+        (slot-born R (suc N) (publishAllV id ws st) s emptySlot (rw (publish-slots id ws st) (within s id o)) (λ nz. absurd (nz refl)) none-low
         (publish-all-born R (suc N) id ws st (ready ws (f .0) en (o .real) (λ c k. rw at k)) (distinct (vers st) R id ws en (λ x. rw at at (once x))) b)))
 
   -- ---- abort
@@ -317,14 +341,15 @@ module _ {z : Sizes} (R N : ℕ) (m : Mem z) (h : Hist) (gd : Good R N m h) (b :
         λ c y. let k = give-stays (news l) st₁ c y in (ap ofMin k ∙ ap (λ (a : ℕ → ℕ). a c) (unlock-part ofMin (λ w x y. refl) id l (st .vers)), ap ofNext k ∙ ap (λ (a : ℕ → ℕ). a c) (unlock-part ofNext (λ w x y. refl) id l (st .vers))) in
         let gone : (c : ℕ) → cnt c (news l) ≢ 0 → st₂ .vers c ≡ emptyVersion = give-gone (news l) st₁ in
         rw vw
-        (slot-born R (suc N) st₂ s emptySlot (rw (rest .2) (within s id o)) (λ nz. absurd (nz refl))
+        (slot-born R (suc N) st₂ s emptySlot (rw (rest .2) (within s id o)) (λ nz. absurd (nz refl)) none-low
         (frame R (suc N) st st₂ (news l) (λ r. ap (λ (a : ℕ → ℕ). a r) (rest .0)) kept
         (λ c k. (let y : minOf st₂ c ≡ 0 = ap ofMin (gone c k) in omega (arith, y, rest .1, iv .ticking), ap ofNext (gone c k)))
         (λ c k. rw at at (on-unslot R (suc N) st (gd .ghost) h iv k s))
         (omega (arith, rest .1)) b
         (λ c j nz le oj e. byEq (cnt c (news l)) 0
         (λ y. rw (rest .2) (b .own c j nz le (rw (rest .2) at oj) (sym (kept c y .0) ∙ (rw (rest .2) at e))))
-        (λ y. absurd (oj (sym e ∙ ap ofMin (gone c y))))))))
+        (λ y. absurd (oj (sym e ∙ ap ofMin (gone c y)))))
+        (λ j. rw (rest .2) (b .lows j)))))
 
   -- ---- vacuum
 
@@ -415,6 +440,7 @@ module _ {z : Sizes} (R N : ℕ) (m : Mem z) (h : Hist) (gd : Good R N m h) (b :
           own = λ c j nz lt op e. byEq (cnt c dead) 0
               (λ y. rw (rest .2) (b .own c j nz lt (rw (rest .2) at op) (sym (mins c y) ∙ (rw (rest .2) at e))))
               (λ y. absurd (op (sym e ∙ ap ofMin (gone c y))));
+          lows = λ j. rw (rest .2) (b .lows j);
         }
 
     row-born : (room : ℕ) → Kept (swept m hz room hd l .after)
@@ -449,18 +475,19 @@ module _ {z : Sizes} (m : Mem z) (n r : ℕ) (e : fits m r n ≡ true) where
   nothing-on (head k lt q nz) = nz (sym q ∙ created-heads-are-0 m n r fit k lt)
   nothing-on (next d o q nz) = nothing-on o
 
-  nobody : (j : ℕ) → slotV fresh j .id ≡ 0
+  nobody : (j : ℕ) → (slotV fresh j .id ≡ 0) × (slotV fresh j .low ≡ 0)
   nobody j = byBool (ltb j (z .slots))
       (λ y.
       let lt = ltb-true j (z .slots) y in
-      ap (λ (t : Slot). t .id) (get-slots z (created m n r .slots) j lt ∙ ap (slotOf z) (created-slots-are-empty m n r fit j lt) ∙ slot-emptied z))
-      (λ y. byEq (slotV fresh j .id) 0 (λ q. q)
-      (λ q. absurd (omega (arith, ltb-false j (z .slots) y, open-in (fresh .slots) j q, few-slots z (created m n r .slots)))))
+      let e = get-slots z (created m n r .slots) j lt ∙ ap (slotOf z) (created-slots-are-empty m n r fit j lt) ∙ slot-emptied z in
+      (ap (λ (t : Slot). t .id) e, ap (λ (t : Slot). t .low) e))
+      (λ y. let e = past-end (fresh .slots) j (omega (arith, ltb-false j (z .slots) y, few-slots z (created m n r .slots))) in (ap (λ (t : Slot). t .id) e, ap (λ (t : Slot). t .low) e))
 
   pub create-born : Born r (suc n) fresh
   create-born = record {
     past = λ c nz lt. let k : minOf fresh c ≡ 0 = ap ofMin (cleared c nz lt) in omega (arith, k, created-sizes-and-clock m n r fit .2);
     real = λ c o. absurd (nothing-on o);
     bare = λ c nz lt no-chain. ap ofNext (cleared c nz lt);
-    own = λ c j nz lt op q. absurd (op (nobody j));
+    own = λ c j nz lt op q. absurd (op (nobody j .0));
+    lows = λ j. (λ op. absurd (op (nobody j .0)), λ _. nobody j .1);
   }
