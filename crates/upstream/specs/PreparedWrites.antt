@@ -7,7 +7,7 @@ use mathlib.Core.Path.{_≡_, refl, sym, ap, _∙_, subst}
 use mathlib.Core.Logic.{_≢_, _⊎_, inl, inr, ⊎-elim}
 use native.Mathlib.Omega.{arith}
 use lib.ListN.{length, getD}
-use borrow.Author.Tests.{not-false}
+use borrow.Author.Tests.{not-false, ne-eqb}
 use Rattle.rules.specs.declared.Version.{Version}
 use Rattle.rules.specs.Sizes.{Sizes, Roomy}
 use Rattle.rules.specs.Lists.{from}
@@ -30,11 +30,12 @@ use Rattle.rules.specs.Theory.Steps.{Sound, histOf}
 use Rattle.rules.specs.Theory.Never.{open-slot, all-entered}
 use Rattle.rules.specs.Theory.ReadLaw.{reachable-sound}
 use Rattle.rules.specs.Members.{in-or-not, in-append}
-use Rattle.rules.specs.Demand3.{every-chain-ends, chained-cell-is-nowhere-else, sizes-are-the-creations, head-is-not-superseded, base-is-head-and-locked}
-use Rattle.upstream.specs.Images.{Image, imageOf, stored, ImageValid}
+use Rattle.rules.specs.Demand3.{every-chain-ends, chained-cell-is-nowhere-else, sizes-are-the-creations, head-is-not-superseded, slot-has-the-open-id}
+use Rattle.upstream.specs.Images.{Image, imageOf, stored, snapshot}
+use Rattle.upstream.specs.Standing.{reachable-image-is-valid, unchained-cell-links-to-nothing}
 use Rattle.upstream.specs.Publication.{Prepared}
-use Rattle.upstream.specs.Safe.{in-times}
-use Rattle.rules.specs.Reachable as Reach
+use Rattle.upstream.specs.RetentionTerms.{Admissible}
+use Rattle.upstream.specs.Safe.{in-times, all-at}
 
 -- ---- lists
 
@@ -76,11 +77,10 @@ new-in [] w i = i
 new-in (q ∷ ws) w (inl e) = inl (ap (λ (x : Write). x .new) e)
 new-in (q ∷ ws) w (inr i) = inr (new-in ws w i)
 
--- a property of every member, of one
-all-at : {A : Type 0} (P : A → Type 0) (l : List A) → Reach.All P l → (x : A) → In x l → P x
-all-at P [] h x i = absurd i
-all-at P (a ∷ l) h x (inl e) = rw e (h .0)
-all-at P (a ∷ l) h x (inr i) = all-at P l (h .1) x i
+not-times : (x : ℕ) (l : List ℕ) → (In x l → ⊥) → times x l ≡ 0
+unfolding times
+not-times x [] n = refl
+not-times x (y ∷ l) n = rw (ne-eqb x y (λ e. n (inl e))) (not-times x l (λ i. n (inr i)))
 
 module _ {z : Sizes} (rm : Roomy z) (m : Mem z) (l : Log) (rc : Reachable m l) where
   abbrev so : Sound m l
@@ -122,13 +122,13 @@ module _ {z : Sizes} (rm : Roomy z) (m : Mem z) (l : Log) (rc : Reachable m l) w
     head-in-chain : (row : ℕ) → row < rowsIn l → headAt m row ≢ 0 → In (headAt m row) (chainAt m row .cells)
     head-in-chain row inR n = first-of (versionAt (m .cells)) (chainAt m row .cells) (headAt m row) (way row inR) n
 
-    -- `prepared`, where the base is the head still. What is asked of cells that are in no chain: their next is 0
-    pub open-write-is-prepared : ImageValid (imageOf m) → ((p : ℕ) → ((r : ℕ) → r < rowsIn l → In p (chainAt m r .cells) → ⊥) → versionAt (m .cells) p .next .0 ≡ 0) → headAt m (w .row) ≡ w .base → Prepared (imageOf m) w (whoIn l s)
-    open-write-is-prepared valid loose headed =
+    -- `prepared`, where the base is the head still
+    pub open-write-is-prepared : headAt m (w .row) ≡ w .base → Prepared (imageOf m) w (whoIn l s)
+    open-write-is-prepared headed =
         let q = entry-carries-its-writer in
         let R = sizes-are-the-creations rm m l rc .0 in
         record {
-          valid = valid;
+          valid = reachable-image-is-valid rm m l rc;
           real = positive (whoIn l s) op;
           row = omega (arith, q .0, R);
           head = headed;
@@ -143,10 +143,15 @@ module _ {z : Sizes} (rm : Roomy z) (m : Mem z) (l : Log) (rc : Reachable m l) w
               (λ j. let k = in-joined (λ r. chainAt m r .cells) p (rowsIn l) 0 j in
               let b : k .0 < rowsIn l = omega (arith, k .1) in
               ⊎-elim (λ o. omega (arith, new-is-a-cell .low, e, o)) (λ y. new-is-unchained (k .0) b (subst (λ (x : ℕ). In x (chainAt m (k .0) .cells)) e y)) (next-stays (versionAt (m .cells)) (chainAt m (k .0) .cells) p (headAt m (k .0)) (way (k .0) b) (k .2)))
-              (λ j. omega (arith, new-is-a-cell .low, e, loose p (λ r b y. j (joined-in (λ r. chainAt m r .cells) p r (rowsIn l) 0 (omega arith) (omega arith) y))));
+              (λ j. omega (arith, new-is-a-cell .low, e, unchained-cell-links-to-nothing rm m l rc p (λ o. omega (arith, is-cell (sizeN m) p .yes st .low, o)) (omega (arith, is-cell (sizeN m) p .yes st .high, sizes-are-the-creations rm m l rc .1)) (λ r b. not-times p (chainAt m r .cells) (λ y. j (joined-in (λ r. chainAt m r .cells) p r (rowsIn l) 0 (omega arith) (omega arith) y)))));
         }
       where
         base-stored : w .base ≢ 0 → stored (imageOf m) (w .base) ≡ true
         base-stored n =
             let q = all-at _ (slotAt m s .writes) (all-entered (rowsIn l) (cellsIn l) m (histOf l) so s (whoIn l s) owns) w i in
             holds-true _ (is-cell (sizeN m) (w .base)) (record { low = positive (w .base) n; high = q .base-in })
+
+    -- .. and 000's `admissible` fails for a reader that has prepared a write, at every horizon: its new cell is a stored version of its own.
+    -- So 000's vacuum promises such a reader nothing; ours is `vacuum-row-acquired-is-safe`
+    pub reader-with-a-write-is-not-admissible : (hz : ℕ) → Admissible (imageOf m) (snapshot (slotAt m s)) hz → ⊥
+    reader-with-a-write-is-not-admissible hz a = a .foreign (w .new) (holds-true _ (is-cell (sizeN m) (w .new)) new-is-a-cell) (entry-carries-its-writer .1 ∙ sym (slot-has-the-open-id rm m l rc s (owns .slot)))

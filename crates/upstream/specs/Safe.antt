@@ -21,24 +21,35 @@ use Rattle.rules.specs.Snapshot.{horizon}
 use Rattle.rules.specs.Outcome.{Outcome, out, isCell}
 use Rattle.rules.specs.Vacuum.{vacuumOut}
 use Rattle.rules.specs.Run.{Call, vacuum, step, run}
-use Rattle.rules.specs.History.{Log, logOf, whoIn, rowsIn}
-use Rattle.rules.specs.Reachable.{Reachable, chainAt, freeAt, times, seesAt}
+use Rattle.rules.specs.History.{Log, logOf, whoIn, rowsIn, cellsIn}
+use Rattle.rules.specs.Reachable.{Reachable, chainAt, freeAt, times, behind}
 use Rattle.rules.specs.Exactly.{In, All, NoneOf, holds-true, is-not}
 use Rattle.rules.specs.Terms.{CellOf, is-cell}
 use Rattle.rules.specs.Along.{Along, ChainIs, chain-is}
 use Rattle.rules.specs.Theory.Cases.{byBool, byEq}
-use Rattle.rules.specs.Members.{in-or-not, all-in}
+use Rattle.rules.specs.Theory.View.{viewOf, get-slots}
+use Rattle.rules.specs.Theory.Effects.{slotV}
+use Rattle.rules.specs.Theory.Counting.{cnt}
+use Rattle.rules.specs.Theory.Inv.{inSlot}
+use Rattle.rules.specs.Theory.Good.{Owner, view-open}
+use Rattle.rules.specs.Theory.Steps.{histOf}
+use Rattle.rules.specs.Theory.Never.{open-slot}
+use Rattle.rules.specs.Theory.ReadLaw.{reachable-sound}
+use Rattle.rules.specs.Theory.VacuumCall.{horizon-under}
+use Rattle.rules.specs.Members.{all-in, in-all}
 use Rattle.rules.specs.HandedOut.{FreeFrom, FreeList}
 use Rattle.rules.specs.VacuumRefuses.{Reclaimable, is-reclaimable, Picks, keep-picks, WholeChain, DeadOf, vacuumLines, vacuum-refuses-exactly}
 use Rattle.rules.specs.OneOutcome.{KeptOf, vacuum-walks}
 use Rattle.rules.specs.VacuumRemoves.{vacuum-of-an-empty-row}
-use Rattle.rules.specs.Demand3.{calls-lead-to-reachable-stores, free-list-ends, chained-cell-is-nowhere-else, vacuum-removes-nothing-that-a-reader-sees, sizes-are-the-creations}
+use Rattle.rules.specs.Demand3.{calls-lead-to-reachable-stores, free-list-ends, chained-cell-is-nowhere-else, vacuum-removes-nothing-that-a-reader-sees, sizes-are-the-creations, slot-has-the-open-id}
 use Rattle.upstream.specs.Images.{Image, imageOf, stored, ImageValid, Snapshot, snapshot}
 use Rattle.upstream.specs.Seen.{firstVisible, reachable}
+use Rattle.upstream.specs.Standing.{reachable-alive, chained-version-is-of-nobody-open, reachable-image-is-valid, open-snapshot-is-well-formed}
 use Rattle.upstream.specs.RetentionTerms.{Eligible, SnapshotWellFormed, Admissible, DataSame, MetadataSameBut, State, stateOf, Newly, firstSeen, prefix, PrefixIneligible, PrefixPreserved, SafeResult}
 use Rattle.upstream.specs.Protected.{sees01, sees01-same, sees000, sees000-same, eligible-is-not-seen, eligible-is-not-seen-under-000}
 use Rattle.upstream.specs.Chains.{along-is-the-chain, first-visible-is-first-seen, down-to-in}
 use Rattle.upstream.specs.Vacuums.{same-data, in-turned}
+use Rattle.rules.specs.Reachable as Reach
 use Rattle.upstream.specs.Vacuums as W
 
 -- ---- of any memory and any snapshot that the horizon protects
@@ -86,6 +97,12 @@ in-times x (y ∷ l) i e = byEq x y
     later q (inl e) = absurd (q e)
     later q (inr j) = j
 
+-- a property of every member, of one
+pub all-at : {A : Type 0} (P : A → Type 0) (l : List A) → Reach.All P l → (x : A) → In x l → P x
+all-at P [] h x i = absurd i
+all-at P (a ∷ l) h x (inl e) = rw e (h .0)
+all-at P (a ∷ l) h x (inr i) = all-at P l (h .1) x i
+
 module _ {z : Sizes} (rm : Roomy z) (m : Mem z) (l : Log) (rc : Reachable m l) where
   pub free-list-is-spelled : FreeList m (freeAt m .cells)
   free-list-is-spelled =
@@ -96,6 +113,51 @@ module _ {z : Sizes} (rm : Roomy z) (m : Mem z) (l : Log) (rc : Reachable m l) w
   -- vacuum_row_acquired.5 is met: no free cell is in a chain
   pub no-free-cell-is-reachable : (row : ℕ) → row < rowsIn l → (x : ℕ) → In x (freeAt m .cells) → In x (chainAt m row .cells) → ⊥
   no-free-cell-is-reachable row inR x i j = in-times x (freeAt m .cells) i (chained-cell-is-nowhere-else rm m l rc row x inR (in-times x (chainAt m row .cells) j) .unfree)
+
+-- ---- open readers and the horizon
+
+in-behind : (c : ℕ) (l : List ℕ) → In c (behind l) → In c l
+in-behind c [] i = i
+in-behind c (x ∷ l) i = inr i
+
+module _ {z : Sizes} (rm : Roomy z) (m : Mem z) (l : Log) (rc : Reachable m l) (s : ℕ) (op : whoIn l s ≢ 0) where
+  abbrev t : Slot
+  t = slotAt m s
+
+  owns : Owner m s (whoIn l s)
+  owns = open-slot (rowsIn l) (cellsIn l) m (histOf l) (reachable-sound rm m l rc) s (whoIn l s) op refl
+
+  abbrev at-slot : slotV (viewOf m) s ≡ slotAt m s
+  at-slot = get-slots z (m .slots) s (owns .slot)
+
+  -- two of the three premises of `admissible` hold of every open reader, at every request
+  pub open-snapshot-is-protected : (request : ℕ) → SnapshotWellFormed (snapshot t) × (horizon m request ≤ t .low)
+  open-snapshot-is-protected request =
+      let k = open-snapshot-is-well-formed rm m l rc s op in (
+        record { real = k .0; lowest = k .1; early = k .2; active = in-all _ (t .active) (λ x i. all-at _ (t .active) (k .3) x i) },
+        subst (λ (y : Slot). horizon m request ≤ y .low) at-slot (horizon-under m request s (view-open m s (whoIn l s) owns)),
+      )
+
+  -- no version of a chain is the reader's own
+  pub chained-is-foreign : (row : ℕ) → row < rowsIn l → (c : ℕ) → In c (chainAt m row .cells) → versionAt (m .cells) c .xmin .0 ≢ t .id
+  chained-is-foreign row inR c i e = chained-version-is-of-nobody-open rm m l rc row c s inR (in-times c (chainAt m row .cells) i) op (e ∙ slot-has-the-open-id rm m l rc s (owns .slot))
+
+  -- the third holds where the reader has prepared no write ..
+  pub reader-without-writes-is-admissible : t .writes ≡ [] → (request : ℕ) → Admissible (imageOf m) (snapshot t) (horizon m request)
+  unfolding cnt
+  reader-without-writes-is-admissible bare request =
+      let k = open-snapshot-is-protected request in
+      record {
+        formed = k .0;
+        below = k .1;
+        foreign = λ p st e.
+            let c = is-cell (sizeN m) p .yes st in
+            let n = sizes-are-the-creations rm m l rc .1 in
+            reachable-alive rm m l rc .own p s (λ o. omega (arith, c .low, o)) (omega (arith, c .high, n)) (view-open m s (whoIn l s) owns) (e ∙ ap (λ (y : Slot). y .id) (sym at-slot)) (subst (λ (y : Slot). inSlot p y ≡ 0) (sym at-slot) (unwritten p));
+      }
+    where
+      unwritten : (p : ℕ) → inSlot p t ≡ 0
+      unwritten p = rw bare
 
 -- ---- one vacuum
 
@@ -140,37 +202,34 @@ module _ {z : Sizes} (rm : Roomy z) (m : Mem z) (l : Log) (rc : Reachable m l) w
         )),
       )
 
-      -- safe_result, for every open reader
-      pub swept-is-safe : ImageValid (imageOf after) → (s : ℕ) → whoIn l s ≢ 0 → SafeResult (sees01 (slotAt m s)) (stateOf m) (stateOf after) row d
-      swept-is-safe valid s op =
-          let see = sees01 (slotAt m s) in
-          let unseen : (c : ℕ) → In c tl → Eligible (versionAt (m .cells) c) hz → see (versionAt (m .cells) c) ≡ false = λ c i e. vacuum-removes-nothing-that-a-reader-sees rm m l rc request c (holds-true _ (is-reclaimable hz (versionAt (m .cells) c)) e) s op in
-          let gone : (x : ℕ) → Newly (stateOf m) (stateOf after) x → In x (reachable (imageOf m) (headAt m row)) × (x ≢ headAt m row) × Eligible (versionAt (m .cells) x) hz = λ x n. W.vacuum-row-acquired-removes-eligible-only m row request room accepted h tl d k whole dead kept x .0 (newly-is-removed x .0 n) in
-          record {
-            valid = valid;
-            same = W.vacuum-row-acquired-metadata-same-but-reclaimed m row request room accepted h tl d k whole dead kept;
-            first = W.vacuum-row-acquired-first-visible-same m row request room accepted h tl d k whole dead kept see (sees01-same (slotAt m s)) unseen;
-            grows = λ x i. subst (In x) (sym vacuum-row-acquired-free-list-after) (in-turned x d (freeAt m .cells) .1 (inr i));
-            apart = λ x i j. W.free-or-left m row request room accepted h tl d k whole dead kept (freeAt m .cells) apart x (subst (In x) vacuum-row-acquired-free-list-after i) j;
-            was = λ x n. gone x n .0;
-            unlocked = λ x n. gone x n .2 .free;
-            unseen = λ x n. W.vacuum-row-acquired-removed-was-not-seen m row request room accepted h tl d k whole dead kept see (sees01-same (slotAt m s)) unseen x (newly-is-removed x .0 n);
-          }
+      -- safe_result and prefix_preserved, for any rule that does not look at next and does not see what is eligible
+      module _ (see : Version → Bool) (same : (v w : Version) → DataSame v w → see v ≡ see w) (unseen : (c : ℕ) → In c tl → Eligible (versionAt (m .cells) c) hz → see (versionAt (m .cells) c) ≡ false) where
+        pub swept-is-safe : SafeResult see (stateOf m) (stateOf after) row d
+        swept-is-safe =
+            let gone : (x : ℕ) → Newly (stateOf m) (stateOf after) x → In x (reachable (imageOf m) (headAt m row)) × (x ≢ headAt m row) × Eligible (versionAt (m .cells) x) hz = λ x n. W.vacuum-row-acquired-removes-eligible-only m row request room accepted h tl d k whole dead kept x .0 (newly-is-removed x .0 n) in
+            record {
+              valid = reachable-image-is-valid rm after log′ after-is-reachable;
+              same = W.vacuum-row-acquired-metadata-same-but-reclaimed m row request room accepted h tl d k whole dead kept;
+              first = W.vacuum-row-acquired-first-visible-same m row request room accepted h tl d k whole dead kept see same unseen;
+              grows = λ x i. subst (In x) (sym vacuum-row-acquired-free-list-after) (in-turned x d (freeAt m .cells) .1 (inr i));
+              apart = λ x i j. W.free-or-left m row request room accepted h tl d k whole dead kept (freeAt m .cells) apart x (subst (In x) vacuum-row-acquired-free-list-after i) j;
+              was = λ x n. gone x n .0;
+              unlocked = λ x n. gone x n .2 .free;
+              unseen = λ x n. W.vacuum-row-acquired-removed-was-not-seen m row request room accepted h tl d k whole dead kept see same unseen x (newly-is-removed x .0 n);
+            }
 
-      -- prefix_preserved, for any rule that does not look at next and does not see what is eligible
-      pub swept-keeps-the-prefix : (see : Version → Bool) → ((v w : Version) → DataSame v w → see v ≡ see w) → ((c : ℕ) → In c tl → Eligible (versionAt (m .cells) c) hz → see (versionAt (m .cells) c) ≡ false)
-          → PrefixIneligible see (imageOf m) row hz → PrefixPreserved see (stateOf m) (stateOf after) row
-      swept-keeps-the-prefix see same unseen q =
-          let keep : (p : ℕ) → In p (prefix see (imageOf m) (headAt m row)) → (In p d → ⊥) × (firstSeen see (imageOf m) (headAt m row) ≢ some p → versionAt (m .cells) p .next ≡ versionAt (after .cells) p .next) =
-          W.vacuum-row-acquired-prefix-is-kept m row request room accepted h tl d k whole dead kept see same unseen q in
-          let inChain : (p : ℕ) → In p (prefix see (imageOf m) (headAt m row)) → In p (h ∷ tl) =
-          λ p i. subst (In p) (W.chain-before m row request room accepted h tl d k whole dead kept) (down-to-in see (versionAt (m .cells)) (reachable (imageOf m) (headAt m row)) p i) in
-          record {
-            apart = λ p i j. ⊎-elim (keep p i .0) (λ f. apart p f (inChain p i)) (in-turned p d (freeAt m .cells) .0 (subst (In p) vacuum-row-acquired-free-list-after j));
-            stands = λ p i. subst (λ (n : ℕ). isCell n p ≡ true) (W.vacuum-row-acquired-metadata-same-but-reclaimed m row request room accepted h tl d k whole dead kept .cells) (holds-true _ (is-cell (sizeN m) p) (all-in (CellOf (sizeN m)) (h ∷ tl) (whole .way .cells) p (inChain p i)));
-            same = λ p i. W.kept-data m row request room accepted h tl d k whole dead kept p (keep p i .0);
-            next = λ p i. keep p i .1;
-          }
+        pub swept-keeps-the-prefix : PrefixIneligible see (imageOf m) row hz → PrefixPreserved see (stateOf m) (stateOf after) row
+        swept-keeps-the-prefix q =
+            let keep : (p : ℕ) → In p (prefix see (imageOf m) (headAt m row)) → (In p d → ⊥) × (firstSeen see (imageOf m) (headAt m row) ≢ some p → versionAt (m .cells) p .next ≡ versionAt (after .cells) p .next) =
+            W.vacuum-row-acquired-prefix-is-kept m row request room accepted h tl d k whole dead kept see same unseen q in
+            let inChain : (p : ℕ) → In p (prefix see (imageOf m) (headAt m row)) → In p (h ∷ tl) =
+            λ p i. subst (In p) (W.chain-before m row request room accepted h tl d k whole dead kept) (down-to-in see (versionAt (m .cells)) (reachable (imageOf m) (headAt m row)) p i) in
+            record {
+              apart = λ p i j. ⊎-elim (keep p i .0) (λ f. apart p f (inChain p i)) (in-turned p d (freeAt m .cells) .0 (subst (In p) vacuum-row-acquired-free-list-after j));
+              stands = λ p i. subst (λ (n : ℕ). isCell n p ≡ true) (W.vacuum-row-acquired-metadata-same-but-reclaimed m row request room accepted h tl d k whole dead kept .cells) (holds-true _ (is-cell (sizeN m) p) (all-in (CellOf (sizeN m)) (h ∷ tl) (whole .way .cells) p (inChain p i)));
+              same = λ p i. W.kept-data m row request room accepted h tl d k whole dead kept p (keep p i .0);
+              next = λ p i. keep p i .1;
+            }
 
     -- ---- in every case: accepted, accepted of a row without versions, refused
 
@@ -184,13 +243,13 @@ module _ {z : Sizes} (rm : Roomy z) (m : Mem z) (l : Log) (rc : Reachable m l) w
     in-chain x i = subst (In x) (along-is-the-chain m (sizeN m) (headAt m row)) i
 
     -- nothing changed
-    still-safe : (see : Version → Bool) → ImageValid (imageOf m) → Safe see m
-    still-safe see valid =
+    still-safe : (see : Version → Bool) → Safe see m
+    still-safe see =
         record {
           removed = [];
           result =
               record {
-                valid = valid;
+                valid = reachable-image-is-valid rm m l rc;
                 same = record { heads = λ r. refl; capacity = refl; cells = refl; rows = λ p e n. same-data _ _ refl; cleared = λ p i. absurd i };
                 first = refl;
                 grows = λ x i. i;
@@ -216,23 +275,32 @@ module _ {z : Sizes} (rm : Roomy z) (m : Mem z) (l : Log) (rc : Reachable m l) w
             way-cells goesOn i = i .1 .cells
             way-cells broken i = i .1 .cells
 
-    -- Of every open reader, with prepared writes or without
-    pub vacuum-row-acquired-is-safe : ImageValid (imageOf after) → (s : ℕ) → whoIn l s ≢ 0 → Safe (sees01 (slotAt m s)) after
-    vacuum-row-acquired-is-safe valid s op = ⊎-elim
-        (λ a. walked a (vacuum-walks m row request room a .0) (vacuum-walks m row request room a .1))
-        (λ q. still (ap (λ (o : Outcome z Answer (List ℕ)). o .after) (vacuum-refuses-exactly m row request room .when (q .0) (q .1) (q .2))))
-        (vacuum-refuses-exactly m row request room .decided)
-      where
-        still : after ≡ m → Safe (sees01 (slotAt m s)) after
-        still e = subst (Safe (sees01 (slotAt m s))) (sym e) (still-safe (sees01 (slotAt m s)) (subst (λ (b : Mem z). ImageValid (imageOf b)) e valid))
+    module _ (see : Version → Bool) (same : (v w : Version) → DataSame v w → see v ≡ see w) (unseen : (c : ℕ) → In c (behind (chainAt m row .cells)) → Eligible (versionAt (m .cells) c) hz → see (versionAt (m .cells) c) ≡ false) where
+      still : after ≡ m → Safe see after
+      still e = subst (Safe see) (sym e) (still-safe see)
 
-        walked : NoneOf (vacuumLines m row request room) → (c : List ℕ) → WholeChain m row c → Safe (sees01 (slotAt m s)) after
-        walked a [] w = still (ap (λ (o : Outcome z Answer (List ℕ)). o .after) (vacuum-of-an-empty-row m row request room a (w .way .along)))
-        walked a (h ∷ tl) w =
-            let p = keep-picks _ (λ c. Reclaimable hz (versionAt (m .cells) c)) (λ c. is-reclaimable hz (versionAt (m .cells) c)) tl in
-            let q = keep-picks _ (λ c. Reclaimable hz (versionAt (m .cells) c) → ⊥) (λ c. is-not _ (is-reclaimable hz (versionAt (m .cells) c))) tl in
-            record {
-              removed = _;
-              result = swept-is-safe a h tl _ _ w p q valid s op;
-              preserved = swept-keeps-the-prefix a h tl _ _ w p q (sees01 (slotAt m s)) (sees01-same (slotAt m s)) (λ c i e. vacuum-removes-nothing-that-a-reader-sees rm m l rc request c (holds-true _ (is-reclaimable hz (versionAt (m .cells) c)) e) s op);
-            }
+      walked : NoneOf (vacuumLines m row request room) → (c : List ℕ) → WholeChain m row c → Safe see after
+      walked a [] w = still (ap (λ (o : Outcome z Answer (List ℕ)). o .after) (vacuum-of-an-empty-row m row request room a (w .way .along)))
+      walked a (h ∷ tl) w =
+          let p = keep-picks _ (λ c. Reclaimable hz (versionAt (m .cells) c)) (λ c. is-reclaimable hz (versionAt (m .cells) c)) tl in
+          let q = keep-picks _ (λ c. Reclaimable hz (versionAt (m .cells) c) → ⊥) (λ c. is-not _ (is-reclaimable hz (versionAt (m .cells) c))) tl in
+          let e : chainAt m row .cells ≡ h ∷ tl = sym (W.along-is-here m row request room a h tl _ _ w p q) in
+          let u : (c : ℕ) → In c tl → Eligible (versionAt (m .cells) c) hz → see (versionAt (m .cells) c) ≡ false = λ c i. unseen c (rw e i) in
+          record { removed = _; result = swept-is-safe a h tl _ _ w p q see same u; preserved = swept-keeps-the-prefix a h tl _ _ w p q see same u }
+
+      safe-for : Safe see after
+      safe-for = ⊎-elim
+          (λ a. walked a (vacuum-walks m row request room a .0) (vacuum-walks m row request room a .1))
+          (λ q. still (ap (λ (o : Outcome z Answer (List ℕ)). o .after) (vacuum-refuses-exactly m row request room .when (q .0) (q .1) (q .2))))
+          (vacuum-refuses-exactly m row request room .decided)
+
+    -- Of every open reader, with prepared writes or without: under 01's rule
+    pub vacuum-row-acquired-is-safe : (s : ℕ) → whoIn l s ≢ 0 → Safe (sees01 (slotAt m s)) after
+    vacuum-row-acquired-is-safe s op = safe-for (sees01 (slotAt m s)) (sees01-same (slotAt m s)) (λ c i e. vacuum-removes-nothing-that-a-reader-sees rm m l rc request c (holds-true _ (is-reclaimable hz (versionAt (m .cells) c)) e) s op)
+
+    -- and under 000's own
+    pub vacuum-row-acquired-is-safe-under-000 : (s : ℕ) → whoIn l s ≢ 0 → Safe (sees000 (snapshot (slotAt m s))) after
+    vacuum-row-acquired-is-safe-under-000 s op =
+        let k = open-snapshot-is-protected rm m l rc s op request in
+        safe-for (sees000 (snapshot (slotAt m s))) (sees000-same (snapshot (slotAt m s)))
+        (λ c i e. eligible-is-not-seen-under-000 (snapshot (slotAt m s)) hz (versionAt (m .cells) c) (k .0) (k .1) (chained-is-foreign rm m l rc s op row inR c (in-behind c (chainAt m row .cells) i)) e)
