@@ -20,3 +20,7 @@ pub mod PreparedWrites
 pub mod Story
 pub mod Native
 pub mod NativeVacuum
+pub mod NativeRun
+pub mod SharedTails
+pub mod Horizons
+pub mod NativeReaders

@@ -8,6 +8,7 @@ use mathlib.Core.Path.{_≡_, refl, sym, ap, _∙_, subst}
 use mathlib.Core.Logic.{_≢_, _↔_, _⊎_, inl, inr, ⊎-elim}
 use native.Mathlib.Omega.{arith}
 use lib.ListN.{length, getD}
+use Rattle.rules.specs.declared.TxId.{TxId}
 use Rattle.rules.specs.declared.Version.{Version}
 use Rattle.rules.specs.declared.Answer.{Answer}
 use Rattle.rules.specs.Sizes.{Sizes, ROWS, CELLS, FREE}
@@ -18,8 +19,8 @@ use Rattle.rules.specs.Chain.{ends, Chain, chain}
 use Rattle.rules.specs.Snapshot.{horizon}
 use Rattle.rules.specs.Outcome.{Outcome}
 use Rattle.rules.specs.Vacuum.{relink, vacuumOut}
-use Rattle.rules.specs.Exactly.{In, All, all-map, NoneOf}
-use Rattle.rules.specs.Terms.{Fitting, store-fits, CellOf}
+use Rattle.rules.specs.Exactly.{In, All, NoneOf, holds-true}
+use Rattle.rules.specs.Terms.{Fitting, store-fits, CellOf, is-cell}
 use Rattle.rules.specs.Along.{Along, is-chain}
 use Rattle.rules.specs.Theory.Cases.{byBool, no-both}
 use Rattle.rules.specs.Theory.CellLaws.{HasCell}
@@ -32,7 +33,7 @@ use Rattle.rules.specs.VacuumRefuses.{Reclaimable, WholeChain, DeadOf, vacuumLi
 use Rattle.rules.specs.OneOutcome.{KeptOf, vacuum-meets}
 use Rattle.upstream.specs.Images.{Image, imageOf, stored}
 use Rattle.upstream.specs.Seen.{reachable}
-use Rattle.upstream.specs.RetentionTerms.{Eligible, DataSame, MetadataSameBut, ReportProvenance, firstSeen, downTo, prefix, PrefixIneligible}
+use Rattle.upstream.specs.RetentionTerms.{Eligible, DataSame, MetadataSame, MetadataSameBut, ReportProvenance, firstSeen, downTo, prefix, PrefixIneligible}
 use Rattle.upstream.specs.Chains.{along-is-the-chain, first-without, first-in, next-same-above}
 use Rattle.rules.specs.VacuumRemoves as W
 
@@ -141,6 +142,19 @@ module _ {z : Sizes} (m : Mem z) (row request room : ℕ) (accepted : NoneOf (va
         cleared = W.vacuum-clears-what-it-removes m row request room accepted h l d k whole dead kept;
       }
 
+  -- where 000's own clause holds: exactly where nothing is reclaimed
+  pub metadata-same-where-nothing-is-reclaimed : d ≡ [] → MetadataSame (imageOf m) (imageOf after)
+  metadata-same-where-nothing-is-reclaimed e =
+      let q = vacuum-row-acquired-metadata-same-but-reclaimed in
+      record { heads = q .heads; capacity = q .capacity; cells = q .cells; rows = λ p st. q .rows p st (λ i. subst (In p) e i) }
+
+  pub metadata-differs-at-the-reclaimed : (c : ℕ) → In c d → MetadataSame (imageOf m) (imageOf after) → ⊥
+  metadata-differs-at-the-reclaimed c i q =
+      let p = dead-is c .0 i in
+      let o = all-in (CellOf (sizeN m)) (h ∷ l) (whole .way .cells) c (inr (p .0)) in
+      let s = q .rows c (holds-true _ (is-cell (sizeN m) c) o) in
+      p .1 .superseded (ap (λ (x : TxId). x .0) (s .xmax) ∙ ap (λ (v : Version). v .xmax .0) (vacuum-row-acquired-metadata-same-but-reclaimed .cleared c i))
+
   -- vacuum_row_acquired.15: what is left behind the head is not eligible
   pub vacuum-row-acquired-leaves-none-eligible : (x : ℕ) → In x (reachable (imageOf after) (headAt after row)) → x ≢ headAt after row → Eligible (versionAt (after .cells) x) hz → ⊥
   vacuum-row-acquired-leaves-none-eligible x i n e =
@@ -152,8 +166,8 @@ module _ {z : Sizes} (m : Mem z) (row request room : ℕ) (accepted : NoneOf (va
       on (inr q) g =
           let w = kept-data x (left-is-not-removed x (inr q)) in
           kept-is x .0 q .1 (record {
-            superseded = λ y. e .superseded (ap (λ (a : _). a .0) (sym (w .xmax)) ∙ y);
-            below = subst (λ (a : _). a .0 < hz) (sym (w .xmax)) (e .below);
+            superseded = λ y. e .superseded (ap (λ (a : TxId). a .0) (sym (w .xmax)) ∙ y);
+            below = subst (λ (a : TxId). a .0 < hz) (sym (w .xmax)) (e .below);
             free = w .locked ∙ e .free;
           })
 
