@@ -1,36 +1,36 @@
 -- 001's `native_` functions over our calls, of any memory that shows the picture: publication, vacuum, reuse, the old reader, validation,
 -- the release of the anchor. `seeded` is asked for but for the base's lock and the prepared cell's next, which our calls set otherwise.
 use Prim.Native.Nat.{ℕ, suc, _+_, _-_, _<_, _≤_}
-use mathlib.Core.Bool.{Bool, true, false, cond}
+use mathlib.Core.Bool.{Bool, true, false, not, _&&_, _||_, cond}
 use mathlib.Core.List.{List, [], _∷_, _++_}
 use mathlib.Core.Option.{Option, some, none}
 use mathlib.Core.Path.{_≡_, refl, sym, ap, _∙_, subst}
 use mathlib.Core.Logic.{_≢_, _⊎_, inl, inr, ⊎-elim}
 use native.Mathlib.Omega.{arith}
 use lib.ListN.{length, getD}
-use lib.Dec.{eqb}
-use borrow.Author.Tests.{eq-eqb, ne-eqb}
+use lib.Dec.{eqb, ltb, leb}
+use borrow.Author.Tests.{eq-eqb, ne-eqb, lt-ltb, le-leb}
 use Rattle.rules.specs.declared.Version.{Version}
 use Rattle.rules.specs.declared.Answer.{Answer}
 use Rattle.rules.specs.Sizes.{Sizes}
-use Rattle.rules.specs.Lists.{first}
+use Rattle.rules.specs.Lists.{first, has}
 use Rattle.rules.specs.Versions.{version, newVersion, withXmax, withNext, unlocked, versionOf, cellAt, versionAt}
 use Rattle.rules.specs.Slots.{Slot, Write}
 use Rattle.rules.specs.Memory.{Mem, sizeR, sizeN, headAt, slotAt}
 use Rattle.rules.specs.Outcome.{Outcome}
 use Rattle.rules.specs.Commit.{commitOut}
-use Rattle.rules.specs.Theory.Cases.{byBool, byEq}
-use Rattle.rules.specs.Exactly.{In, All, NoneOf, holds-true, fails-false}
+use Rattle.rules.specs.Theory.Cases.{or-true}
+use Rattle.rules.specs.Exactly.{In, NoneOf, holds-true, fails-false, is-in}
 use Rattle.rules.specs.Terms.{CellOf, is-cell, CreatorSeen, Sees, is-seen}
 use Rattle.rules.specs.Members.{all-in}
 use Rattle.rules.specs.CommitRefuses.{commitLines, commit-refuses-exactly}
 use Rattle.rules.specs.Published.{Apart}
 use Rattle.rules.specs.CommitPublishes.{commit-moves-each-head, commit-marks-each-base, commit-links-each-new, commit-keeps-other-cells, commit-keeps-the-clock}
 use Rattle.upstream.specs.Images.{Image, imageOf, stored, Snapshot, snapshot}
-use Rattle.upstream.specs.Seen.{along, reachable}
+use Rattle.upstream.specs.Seen.{creatorVisible, visible, along}
 use Rattle.upstream.specs.Transactions.{valueOf}
 use Rattle.upstream.specs.RetentionTerms.{firstSeen}
-use Rattle.upstream.specs.Protected.{sees01}
+use Rattle.upstream.specs.Protected.{sees01, sees000}
 use Rattle.upstream.specs.Story.{Layout, Distinct, write, OldReader, seeded, published, pruned, reused, Agree, AgreeButTail}
 
 -- ---- what the pictures hold
@@ -84,6 +84,34 @@ module _ (t : Slot) (birth writer : ℕ) (old : OldReader (snapshot t) birth wri
   pub old-reader-misses-the-writer : (v : Version) → v .xmin .0 ≡ writer → Sees t v → ⊥
   old-reader-misses-the-writer v e s = not-seen-writer (subst (CreatorSeen t) e (s .made))
 
+-- a rule by which a reader sees the birth, standing or superseded by the writer, and nothing of the writer
+pub record SeesTheBirth (see : Version → Bool) (birth writer : ℕ) : Type 0 where
+  pub seen : (v : Version) → v .xmin .0 ≡ birth → (v .xmax .0 ≡ 0) ⊎ (v .xmax .0 ≡ writer) → see v ≡ true
+  pub unseen : (v : Version) → v .xmin .0 ≡ writer → see v ≡ false
+
+-- the old reader, under 01's rule and under 000's
+pub old-reader-sees : (t : Slot) (birth writer : ℕ) → OldReader (snapshot t) birth writer → SeesTheBirth (sees01 t) birth writer
+old-reader-sees t birth writer old = record {
+  seen = λ v e x. holds-true _ (is-seen t v) (old-reader-sees-the-birth t birth writer old v e x);
+  unseen = λ v e. fails-false _ (is-seen t v) (old-reader-misses-the-writer t birth writer old v e);
+}
+
+pub old-reader-sees-under-000 : (t : Snapshot) (birth writer : ℕ) → OldReader t birth writer → SeesTheBirth (sees000 t) birth writer
+unfolding visible creatorVisible
+old-reader-sees-under-000 t birth writer old = record {
+  seen = λ v e x. rw e (
+    rw (ne-eqb birth (t .txid) (λ o. omega (arith, old .early, old .lowest, o)), lt-ltb birth (t .xmin) (old .early))
+    (⊎-elim (λ o. rw (eq-eqb (v .xmax .0) 0 o)) (λ o. rw o (superseded writer (old .foreign) (old .later))) x));
+  unseen = λ v e. rw e (rw (ne-eqb writer (t .txid) (old .foreign), hides) );
+}
+  where
+    superseded : (w : ℕ) → w ≢ t .txid → (t .xmax ≤ w) ⊎ In w (t .active) → (eqb w 0 || (not (eqb w (t .txid)) && (leb (t .xmax) w || has w (t .active)))) ≡ true
+    superseded w n (inl b) = rw (ne-eqb w (t .txid) n, le-leb (t .xmax) w b) (or-true (eqb w 0))
+    superseded w n (inr i) = rw (ne-eqb w (t .txid) n, holds-true _ (is-in w (t .active)) i, or-true (leb (t .xmax) w)) (or-true (eqb w 0))
+
+    hides : (ltb writer (t .xmin) || (ltb writer (t .xmax) && not (has writer (t .active)))) ≡ false
+    hides = rw (ne-eqb writer (t .txid) (old .foreign)) at (old .hidden)
+
 -- ---- the first seen of one cell, and of two
 
 module _ (see : Version → Bool) (s : Image) where
@@ -118,23 +146,23 @@ pub record Inside (n : ℕ) (l : Layout) : Type 0 where
 
 -- ---- who reads the anchor
 
-module _ {z : Sizes} (m : Mem z) (l : Layout) (ok : Distinct l) (inside : Inside (sizeN m) l) (birth writer before : ℕ) (t : Slot) (old : OldReader (snapshot t) birth writer) where
+module _ {z : Sizes} (m : Mem z) (l : Layout) (ok : Distinct l) (inside : Inside (sizeN m) l) (birth writer before : ℕ) (see : Version → Bool) (old : SeesTheBirth see birth writer) where
   abbrev at : ℕ → Version
   at c = versionAt (m .cells) c
 
   -- the anchor is the head, and the writer has not superseded it
-  pub reads-the-anchor-at-the-head : headAt m 0 ≡ l .anchor → at (l .anchor) .xmin .0 ≡ birth → at (l .anchor) .xmax .0 ≡ 0 → valueOf (at (l .anchor)) ≡ some before → ReadsTheAnchor (sees01 t) l before (imageOf m)
+  pub reads-the-anchor-at-the-head : headAt m 0 ≡ l .anchor → at (l .anchor) .xmin .0 ≡ birth → at (l .anchor) .xmax .0 ≡ 0 → valueOf (at (l .anchor)) ≡ some before → ReadsTheAnchor see l before (imageOf m)
   reads-the-anchor-at-the-head h x y k =
       record {
-        first = rw h (seen-at-once (sees01 t) (imageOf m) (l .anchor) (inside .anchor) (holds-true _ (is-seen t (at (l .anchor))) (old-reader-sees-the-birth t birth writer old (at (l .anchor)) x (inl y))));
+        first = rw h (seen-at-once see (imageOf m) (l .anchor) (inside .anchor) (old .seen (at (l .anchor)) x (inl y)));
         key = k;
       }
 
   -- the writer's version is the head, the anchor behind it
-  pub reads-the-anchor-behind-the-writer : headAt m 0 ≡ l .fresh → at (l .fresh) .xmin .0 ≡ writer → at (l .fresh) .next .0 ≡ l .anchor → at (l .anchor) .xmin .0 ≡ birth → at (l .anchor) .xmax .0 ≡ writer → valueOf (at (l .anchor)) ≡ some before → ReadsTheAnchor (sees01 t) l before (imageOf m)
+  pub reads-the-anchor-behind-the-writer : headAt m 0 ≡ l .fresh → at (l .fresh) .xmin .0 ≡ writer → at (l .fresh) .next .0 ≡ l .anchor → at (l .anchor) .xmin .0 ≡ birth → at (l .anchor) .xmax .0 ≡ writer → valueOf (at (l .anchor)) ≡ some before → ReadsTheAnchor see l before (imageOf m)
   reads-the-anchor-behind-the-writer h w e x y k =
       record {
-        first = rw h (seen-next (sees01 t) (imageOf m) (l .fresh) (l .anchor) (inside .fresh) (inside .anchor) (λ q. ok .anchorFresh (sym q)) (fails-false _ (is-seen t (at (l .fresh))) (old-reader-misses-the-writer t birth writer old (at (l .fresh)) w)) e (holds-true _ (is-seen t (at (l .anchor))) (old-reader-sees-the-birth t birth writer old (at (l .anchor)) x (inr y))));
+        first = rw h (seen-next see (imageOf m) (l .fresh) (l .anchor) (inside .fresh) (inside .anchor) (λ q. ok .anchorFresh (sym q)) (old .unseen (at (l .fresh)) w) e (old .seen (at (l .anchor)) x (inr y)));
         key = k;
       }
 
@@ -184,18 +212,18 @@ module _ {z : Sizes} (m : Mem z) (l : Layout) (ok : Distinct l) (birth writer be
         }
 
     -- .9, .10: the old reader finds the anchor and the key of before, whatever the answer
-    pub native-publication-derives-history : Inside N l → (t : Slot) → OldReader (snapshot t) birth writer → ReadsTheAnchor (sees01 t) l before (imageOf next)
-    native-publication-derives-history inside t old = ⊎-elim
+    pub native-publication-derives-history : Inside N l → (see : Version → Bool) → SeesTheBirth see birth writer → ReadsTheAnchor see l before (imageOf next)
+    native-publication-derives-history inside see old = ⊎-elim
         (λ a.
         let p = native-publication-leaves-published a in
         let n : sizeN next ≡ N = ap (λ (y : List ℕ). getD y 1 0) (commit-keeps-the-clock m s writer a) in
         let pa = sym (p .anchor) ∙ published-anchor l ok birth writer before after N in
         let pf = sym (p .fresh) ∙ published-fresh l ok birth writer before after N in
-        reads-the-anchor-behind-the-writer next l ok (subst (λ (k : ℕ). Inside k l) (sym n) inside) birth writer before t old (sym (p .head))
+        reads-the-anchor-behind-the-writer next l ok (subst (λ (k : ℕ). Inside k l) (sym n) inside) birth writer before see old (sym (p .head))
         (ap (λ (v : Version). v .xmin .0) pf) (ap (λ (v : Version). v .next .0) pf) (ap (λ (v : Version). v .xmin .0) pa) (ap (λ (v : Version). v .xmax .0) pa) (ap valueOf pa))
         (λ q.
         let e : next ≡ m = ap (λ (o : Outcome z Answer ℕ). o .after) (commit-refuses-exactly m s writer .when (q .0) (q .1) (q .2)) in
         let a = seed .anchor ∙ seeded-anchor l ok birth writer before after N in
-        subst (λ (b : Mem z). ReadsTheAnchor (sees01 t) l before (imageOf b)) (sym e)
-        (reads-the-anchor-at-the-head m l ok inside birth writer before t old (seed .head) (ap (λ (v : Version). v .xmin .0) a) (ap (λ (v : Version). v .xmax .0) a) (ap valueOf a)))
+        subst (λ (b : Mem z). ReadsTheAnchor see l before (imageOf b)) (sym e)
+        (reads-the-anchor-at-the-head m l ok inside birth writer before see old (seed .head) (ap (λ (v : Version). v .xmin .0) a) (ap (λ (v : Version). v .xmax .0) a) (ap valueOf a)))
         (commit-refuses-exactly m s writer .decided)

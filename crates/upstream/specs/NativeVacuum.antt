@@ -40,10 +40,9 @@ use Rattle.rules.specs.WritePrepares.{write-prepares-the-cell, write-locks-the-
 use Rattle.rules.specs.CommitRefusedWhen.{Validating, commit-refused-9-names-first-conflicting-record}
 use Rattle.upstream.specs.Images.{Image, imageOf, Snapshot, snapshot}
 use Rattle.upstream.specs.Transactions.{valueOf}
-use Rattle.upstream.specs.Protected.{sees01}
 use Rattle.upstream.specs.Vacuums.{vacuum-row-acquired-recycles, vacuum-row-acquired-counts-its-reports}
 use Rattle.upstream.specs.Story.{Layout, Distinct, OldReader, published, pruned, reused, Agree, AgreeButTail}
-use Rattle.upstream.specs.Native.{Inside, ReadsTheAnchor, reads-the-anchor-behind-the-writer, published-tail, published-anchor, published-fresh, pruned-anchor, pruned-fresh, old-reader-sees-the-birth, old-reader-misses-the-writer}
+use Rattle.upstream.specs.Native.{Inside, SeesTheBirth, ReadsTheAnchor, reads-the-anchor-behind-the-writer, published-tail, published-anchor, published-fresh, pruned-anchor, pruned-fresh, old-reader-sees-the-birth, old-reader-misses-the-writer}
 use Rattle.rules.specs.VacuumRemoves as W
 
 -- ---- a memory that shows `pruned`, whatever its tail holds
@@ -55,9 +54,9 @@ module _ {z : Sizes} (m : Mem z) (l : Layout) (ok : Distinct l) (n birth writer 
   pruned-at-fresh : versionAt (m .cells) (l .fresh) ≡ version writer 0 (l .anchor) 1 after 0 0
   pruned-at-fresh = sym (agree .fresh) ∙ pruned-fresh l ok birth writer before after n
 
-  pub old-reader-reads-the-anchor : Inside (sizeN m) l → (t : Slot) → OldReader (snapshot t) birth writer → ReadsTheAnchor (sees01 t) l before (imageOf m)
-  old-reader-reads-the-anchor inside t old =
-      reads-the-anchor-behind-the-writer m l ok inside birth writer before t old (sym (agree .head))
+  pub old-reader-reads-the-anchor : Inside (sizeN m) l → (see : Version → Bool) → SeesTheBirth see birth writer → ReadsTheAnchor see l before (imageOf m)
+  old-reader-reads-the-anchor inside see old =
+      reads-the-anchor-behind-the-writer m l ok inside birth writer before see old (sym (agree .head))
       (ap (λ (v : Version). v .xmin .0) pruned-at-fresh) (ap (λ (v : Version). v .next .0) pruned-at-fresh) (ap (λ (v : Version). v .xmin .0) pruned-at-anchor) (ap (λ (v : Version). v .xmax .0) pruned-at-anchor) (ap valueOf pruned-at-anchor)
 
 -- ---- native_vacuum_derives_history
@@ -147,20 +146,20 @@ module _ {z : Sizes} (m : Mem z) (l : Layout) (ok : Distinct l) (inside : Inside
             W.vacuum-clears-what-it-removes m 0 request room accepted (l .fresh) (l .anchor ∷ l .tail ∷ []) (l .tail ∷ []) (l .anchor ∷ []) whole dead kept (l .tail) (inl refl),
           )
 
-  before-it : ReadsTheAnchor (sees01 t) l before (imageOf m)
-  before-it =
-      reads-the-anchor-behind-the-writer m l ok inside birth writer before t old (sym (agree .head))
+  before-it : (see : Version → Bool) → SeesTheBirth see birth writer → ReadsTheAnchor see l before (imageOf m)
+  before-it see sb =
+      reads-the-anchor-behind-the-writer m l ok inside birth writer before see sb (sym (agree .head))
       (ap (λ (v : Version). v .xmin .0) at-fresh) (ap (λ (v : Version). v .next .0) at-fresh) (ap (λ (v : Version). v .xmin .0) at-anchor) (ap (λ (v : Version). v .xmax .0) at-anchor) (ap valueOf at-anchor)
 
   -- .10: the old reader finds the anchor and the key of before, whatever the answer
-  pub native-vacuum-derives-history : birth < hz → hz ≤ t .low → ReadsTheAnchor (sees01 t) l before (imageOf next)
-  native-vacuum-derives-history born under = ⊎-elim
+  pub native-vacuum-derives-history : birth < hz → hz ≤ t .low → (see : Version → Bool) → SeesTheBirth see birth writer → ReadsTheAnchor see l before (imageOf next)
+  native-vacuum-derives-history born under see sb = ⊎-elim
       (λ a.
       let n : sizeN next ≡ sizeN m = W.vacuum-keeps-the-rest m 0 request room a (l .fresh) (l .anchor ∷ l .tail ∷ []) (l .tail ∷ []) (l .anchor ∷ []) (whole a) (dead a born under) (kept a born under) .3 CELLS (λ e. omega arith) in
-      old-reader-reads-the-anchor next l ok (sizeN m) birth writer before after (native-vacuum-leaves-pruned a born under .0) (subst (λ (k : ℕ). Inside k l) (sym n) inside) t old)
+      old-reader-reads-the-anchor next l ok (sizeN m) birth writer before after (native-vacuum-leaves-pruned a born under .0) (subst (λ (k : ℕ). Inside k l) (sym n) inside) see sb)
       (λ q.
       let e : next ≡ m = ap (λ (o : Outcome z Answer (List ℕ)). o .after) (vacuum-refuses-exactly m 0 request room .when (q .0) (q .1) (q .2)) in
-      subst (λ (b : Mem z). ReadsTheAnchor (sees01 t) l before (imageOf b)) (sym e) before-it)
+      subst (λ (b : Mem z). ReadsTheAnchor see l before (imageOf b)) (sym e) (before-it see sb))
       (vacuum-refuses-exactly m 0 request room .decided)
 
 -- ---- native_vacuum_releases_anchor
@@ -216,8 +215,8 @@ module _ {z : Sizes} (m : Mem z) (l : Layout) (ok : Distinct l) (n birth writer 
   )
 
   -- .10, .11: the old reader reads the anchor on
-  pub native-initialize-preserves-reader : Inside (sizeN reusing) l → (t : Slot) → OldReader (snapshot t) birth writer → ReadsTheAnchor (sees01 t) l before (imageOf reusing)
-  native-initialize-preserves-reader inside t old =
+  pub native-initialize-preserves-reader : Inside (sizeN reusing) l → (see : Version → Bool) → SeesTheBirth see birth writer → ReadsTheAnchor see l before (imageOf reusing)
+  native-initialize-preserves-reader inside see old =
       let r = native-initialize-leaves-reused in
       let a = r .1 ∙ pruned-at-anchor m l ok n birth writer before after agree in
       let f = pruned-at-fresh m l ok n birth writer before after agree in
@@ -225,7 +224,7 @@ module _ {z : Sizes} (m : Mem z) (l : Layout) (ok : Distinct l) (n birth writer 
       (λ e. (ap (λ (v : Version). v .xmin .0) (e ∙ f), ap (λ (v : Version). v .next .0) (e ∙ f)))
       (λ e. (ap (λ (v : Version). v .xmin .0) (e .1) ∙ ap (λ (v : Version). v .xmin .0) f, ap (λ (v : Version). v .next .0) (e .1) ∙ ap (λ (v : Version). v .next .0) f))
       (r .3) in
-      reads-the-anchor-behind-the-writer reusing l ok inside birth writer before t old (r .2 ∙ sym (agree .head)) (same .0) (same .1) (ap (λ (v : Version). v .xmin .0) a) (ap (λ (v : Version). v .xmax .0) a) (ap valueOf a)
+      reads-the-anchor-behind-the-writer reusing l ok inside birth writer before see old (r .2 ∙ sym (agree .head)) (same .0) (same .1) (ap (λ (v : Version). v .xmin .0) a) (ap (λ (v : Version). v .xmax .0) a) (ap valueOf a)
 
 -- ---- native_read_after_reuse and native_validation_rejects_invisible_writer
 
