@@ -24,3 +24,4 @@ pub mod NativeRun
 pub mod SharedTails
 pub mod Horizons
 pub mod NativeReaders
+pub mod NativeMet

@@ -100,9 +100,9 @@ pub old-reader-sees-under-000 : (t : Snapshot) (birth writer : ℕ) → OldReade
 unfolding visible creatorVisible
 old-reader-sees-under-000 t birth writer old = record {
   seen = λ v e x. rw e (
-    rw (ne-eqb birth (t .txid) (λ o. omega (arith, old .early, old .lowest, o)), lt-ltb birth (t .xmin) (old .early))
-    (⊎-elim (λ o. rw (eq-eqb (v .xmax .0) 0 o)) (λ o. rw o (superseded writer (old .foreign) (old .later))) x));
-  unseen = λ v e. rw e (rw (ne-eqb writer (t .txid) (old .foreign), hides) );
+      rw (ne-eqb birth (t .txid) (λ o. omega (arith, old .early, old .lowest, o)), lt-ltb birth (t .xmin) (old .early))
+      (⊎-elim (λ o. rw (eq-eqb (v .xmax .0) 0 o)) (λ o. rw o (superseded writer (old .foreign) (old .later))) x));
+  unseen = λ v e. rw e (rw (ne-eqb writer (t .txid) (old .foreign), hides));
 }
   where
     superseded : (w : ℕ) → w ≢ t .txid → (t .xmax ≤ w) ⊎ In w (t .active) → (eqb w 0 || (not (eqb w (t .txid)) && (leb (t .xmax) w || has w (t .active)))) ≡ true

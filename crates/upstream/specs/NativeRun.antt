@@ -15,7 +15,7 @@ use Rattle.rules.specs.Sizes.{base, lastId}
 use Rattle.rules.specs.Lists.{last, fold, has, keep, first, least, greatest, from}
 use Rattle.rules.specs.Versions.{at, tx, version, newVersion, emptyVersion, unlocked, withNext, versionOf, wordsOf, cellAt, versionAt, putCell}
 use Rattle.rules.specs.Slots.{words, threes, slotOf, push, opened}
-use Rattle.rules.specs.Memory.{Mem, mem, headAt, slotAt}
+use Rattle.rules.specs.Memory.{Mem, mem, sizeN, free, headAt, slotAt}
 use Rattle.rules.specs.Visible.{creatorVisible, visible, conflict}
 use Rattle.rules.specs.Chain.{look, chain}
 use Rattle.rules.specs.Snapshot.{occupied, vacant, horizonOf, horizon}
@@ -57,18 +57,25 @@ abbrev pub afterVacuum : Mem base
 afterVacuum = vacuumOut afterCommit 0 lastId 1 .after
 
 -- the reuser takes the tail's cell for row 1
+abbrev pub reusing : Mem base
+reusing = beginOut afterVacuum .after
+
 abbrev pub afterReuse : Mem base
-afterReuse = run (begin ∷ write 1 5 1 (some 5) ∷ []) afterVacuum .1
+afterReuse = writeOut reusing 1 5 1 (some 5) .after
 
 abbrev pub afterRead : Mem base
 afterRead = readOut afterReuse 0 3 0 .after
 
--- the reader writes, its commit is refused, it aborts; the reuser commits, and another reader (slot 0, id 6) begins
+-- the reader writes
+abbrev pub afterWrite : Mem base
+afterWrite = writeOut afterRead 0 3 1 (some 9) .after
+
+-- its commit is refused, it aborts; the reuser commits, and another reader (slot 0, id 6) begins
 abbrev pub toEnd : List Call
-toEnd = write 0 3 1 (some 9) ∷ commit 0 3 ∷ abort 0 3 ∷ commit 1 5 ∷ begin ∷ []
+toEnd = commit 0 3 ∷ abort 0 3 ∷ commit 1 5 ∷ begin ∷ []
 
 abbrev pub atEnd : Mem base
-atEnd = run toEnd afterRead .1
+atEnd = run toEnd afterWrite .1
 
 abbrev pub layout : Layout
 layout = record { tail = 1; anchor = 2; fresh = 3 }
@@ -87,12 +94,19 @@ pub record Told : Type 0 where
   pub reports : vacuumOut afterCommit 0 lastId 1 .front ≡ (1 ∷ 0 ∷ 0 ∷ []) ∷ []
   pub horizonThen : horizon afterCommit lastId ≡ 3
   pub freeBefore : freeAt afterCommit .cells ≡ 4 ∷ []
+  pub reuserWrites : writeOut reusing 1 5 1 (some 5) .answer ≡ Wrote (at 1)
+  pub reuserSlot : slotAt reusing 1 .writes ≡ []
+  pub reuserHeads : (headAt reusing 0 ≡ 3) × (headAt reusing 1 ≡ 0) × (free reusing ≡ 1)
+  pub sizes : (sizeN written ≡ 4) × (sizeN afterCommit ≡ 4) × (sizeN afterReuse ≡ 4) × (sizeN afterWrite ≡ 4) × (sizeN atEnd ≡ 4)
   pub freeAfter : freeAt afterVacuum .cells ≡ 1 ∷ 4 ∷ []
   pub cleared : versionAt (afterVacuum .cells) 1 ≡ emptyVersion
   pub reuses : versionAt (afterReuse .cells) 1 ≡ newVersion (some 5) 5 0
+  pub readerThen : slotAt afterReuse 0 ≡ record { id = 3; low = 3; top = 4; active = 3 ∷ []; writes = []; recs = [] }
   pub reads : readOut afterReuse 0 3 0 .answer ≡ Key 70
   pub records : slotAt afterRead 0 .recs ≡ S.rec 0 2 2 ∷ []
-  pub end : run toEnd afterRead .0 ≡ gave (Wrote (at 4)) [] ∷ gave (Refused 9 0) [] ∷ gave Done [] ∷ gave Done [] ∷ gave (Begun 0 (tx 6)) [] ∷ []
+  pub readerWrites : writeOut afterRead 0 3 1 (some 9) .answer ≡ Wrote (at 4)
+  pub readerStands : slotAt afterWrite 0 ≡ record { id = 3; low = 3; top = 4; active = 3 ∷ []; writes = S.write 1 0 4 ∷ []; recs = S.rec 0 2 2 ∷ [] }
+  pub end : run toEnd afterWrite .0 ≡ gave (Refused 9 0) [] ∷ gave Done [] ∷ gave Done [] ∷ gave (Begun 0 (tx 6)) [] ∷ []
   pub horizonEnd : horizon atEnd lastId ≡ 6
   pub releases : vacuumOut atEnd 0 lastId 1 .answer ≡ Vacuumed 1 (Key 75)
   pub released : vacuumOut atEnd 0 lastId 1 .front ≡ (2 ∷ 1 ∷ 70 ∷ []) ∷ []
@@ -113,11 +127,18 @@ story =
       reports = refl;
       horizonThen = refl;
       freeBefore = refl;
+      reuserWrites = refl;
+      reuserSlot = refl;
+      reuserHeads = (refl, refl, refl);
+      sizes = (refl, refl, refl, refl, refl);
       freeAfter = refl;
       cleared = refl;
       reuses = refl;
+      readerThen = refl;
       reads = refl;
       records = refl;
+      readerWrites = refl;
+      readerStands = refl;
       end = refl;
       horizonEnd = refl;
       releases = refl;
@@ -143,6 +164,9 @@ pub record Pictures : Type 0 where
   pub is-seeded : Seeded written layout layout-is-distinct 2 4 70 75
   pub is-published : Agree layout (published layout 2 4 70 75 4) (imageOf afterCommit)
   pub is-pruned : AgreeButTail layout (pruned layout 2 4 70 75 4) (imageOf afterVacuum)
+  pub is-pruned-before-reuse : AgreeButTail layout (pruned layout 2 4 70 75 4) (imageOf reusing)
+  pub is-pruned-while-writing : AgreeButTail layout (pruned layout 2 4 70 75 4) (imageOf afterWrite)
+  pub is-pruned-after-reuse : AgreeButTail layout (pruned layout 2 4 70 75 4) (imageOf afterReuse)
   pub is-reused : Agree layout (reused layout 2 4 70 75 4 5 5) (imageOf afterReuse)
   pub is-pruned-still : AgreeButTail layout (pruned layout 2 4 70 75 4) (imageOf atEnd)
 
@@ -153,6 +177,9 @@ pictures =
       is-seeded = record { head = refl; tail = refl; anchor = refl; fresh = refl };
       is-published = record { head = refl; tail = refl; anchor = refl; fresh = refl };
       is-pruned = record { head = refl; anchor = refl; fresh = refl };
+      is-pruned-before-reuse = record { head = refl; anchor = refl; fresh = refl };
+      is-pruned-while-writing = record { head = refl; anchor = refl; fresh = refl };
+      is-pruned-after-reuse = record { head = refl; anchor = refl; fresh = refl };
       is-reused = record { head = refl; tail = refl; anchor = refl; fresh = refl };
       is-pruned-still = record { head = refl; anchor = refl; fresh = refl };
     }
