@@ -8,3 +8,6 @@ pub mod Visibility
 pub mod Born
 pub mod BornCalls
 pub mod Standing
+-- reads
+pub mod ReadTerms
+pub mod Reading
