@@ -11,3 +11,4 @@ pub mod Standing
 -- reads
 pub mod ReadTerms
 pub mod Reading
+pub mod Told
