@@ -12,3 +12,4 @@ pub mod Standing
 pub mod ReadTerms
 pub mod Reading
 pub mod Told
+pub mod Materialize
