@@ -13,3 +13,4 @@ pub mod ReadTerms
 pub mod Reading
 pub mod Told
 pub mod Materialize
+pub mod Validating
