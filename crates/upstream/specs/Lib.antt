@@ -14,3 +14,6 @@ pub mod Reading
 pub mod Told
 pub mod Materialize
 pub mod Validating
+-- slots and clock
+pub mod LifecycleTerms
+pub mod Lifecycle
