@@ -8,20 +8,31 @@ pub mod Visibility
 pub mod Born
 pub mod BornCalls
 pub mod Standing
--- publication and vacuum
+-- reads
+pub mod ReadTerms
+pub mod Reading
+pub mod Told
+pub mod Materialize
+pub mod Validating
+-- slots and clock
+pub mod LifecycleTerms
+pub mod Lifecycle
+-- publication
 pub mod Publication
+pub mod Publishes
+pub mod PreparedWrites
+-- vacuum
 pub mod RetentionTerms
 pub mod Chains
 pub mod Vacuums
 pub mod Protected
 pub mod Safe
-pub mod Publishes
-pub mod PreparedWrites
+pub mod SharedTails
+pub mod Horizons
+-- the story of 001
 pub mod Story
 pub mod Native
 pub mod NativeVacuum
 pub mod NativeRun
-pub mod SharedTails
-pub mod Horizons
 pub mod NativeReaders
 pub mod NativeMet
