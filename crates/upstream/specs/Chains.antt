@@ -1,4 +1,4 @@
--- A chain as 000 walks it is the list of cells that the rules walk, and 000's first visible version is the first of that list.
+-- The first seen version of a chain, and what lies in front of it, where members of the chain are left out.
 use Prim.Native.Nat.{ℕ, zero, suc}
 use mathlib.Core.Bool.{Bool, true, false, cond}
 use mathlib.Core.List.{List, [], _∷_}
@@ -19,27 +19,12 @@ use Rattle.rules.specs.Along.{Along}
 use Rattle.rules.specs.VacuumRefuses.{Picks}
 use Rattle.upstream.specs.Images.{Image, imageOf, stored, Snapshot}
 use Rattle.upstream.specs.Seen.{visible, firstAlong, firstVisible, along, reachable}
+use Rattle.upstream.specs.Reading.{first-visible-is-first-of-the-chain}
 use Rattle.upstream.specs.RetentionTerms.{firstSeen, downTo}
 
-pub along-is-the-chain : {z : Sizes} (m : Mem z) (k p : ℕ) → along k (imageOf m) p ≡ chain (sizeN m) (versionAt (m .cells)) k p .cells
-unfolding along chain
-along-is-the-chain m zero p = byEq p 0 (λ e. rw (eq-eqb p 0 e)) (λ n. rw (ne-eqb p 0 n))
-along-is-the-chain m (suc k) p = byEq p 0
-    (λ e. rw (eq-eqb p 0 e))
-    (λ n. byLe p (sizeN m)
-    (λ b. rw (ne-eqb p 0 n, le-leb p (sizeN m) b, le-ltb (sizeN m) p b) (ap (λ (l : List ℕ). p ∷ l) (along-is-the-chain m k (versionAt (m .cells) p .next .0))))
-    (λ b. rw (ne-eqb p 0 n, lt-leb p (sizeN m) b, lt-ltb (sizeN m) p b)))
-
 -- 000's `first_visible` is the first visible of the chain's cells
-pub first-along-is-first : (k : ℕ) (s : Image) (p : ℕ) (t : Snapshot) → firstAlong k s p t ≡ first (λ c. visible (s .rows c) t) (along k s p)
-unfolding firstAlong along first
-first-along-is-first zero s p t = refl
-first-along-is-first (suc k) s p t = byBool (stored s p)
-    (λ e. rw e (byBool (visible (s .rows p) t) (λ v. rw v) (λ v. rw v (first-along-is-first k s (s .rows p .next .0) t))))
-    (λ e. rw e)
-
 pub first-visible-is-first-seen : (s : Image) (p : ℕ) (t : Snapshot) → firstVisible s p t ≡ firstSeen (λ v. visible v t) s p
-first-visible-is-first-seen s p t = first-along-is-first (s .cells) s p t
+first-visible-is-first-seen s p t = first-visible-is-first-of-the-chain s (s .cells) p t
 
 -- ---- the first that passes
 

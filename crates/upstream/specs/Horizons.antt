@@ -12,6 +12,8 @@ use Rattle.rules.specs.Memory.{Mem, clock}
 use Rattle.rules.specs.Snapshot.{occupied, horizonOf, horizon}
 use Rattle.rules.specs.Horizon.{Occupies, Bound, horizon-is-the-least, horizon-at-most-each-bound, least-at-most, least-at-most-each, occupied-exactly}
 use Rattle.rules.specs.Exactly.{In}
+use Rattle.upstream.specs.LifecycleTerms.{minimumRetention}
+use Rattle.upstream.specs.Lifecycle.{minimum-retention-is-least}
 
 -- `min_horizon`
 abbrev pub minHorizon : ℕ → ℕ → ℕ
@@ -36,6 +38,10 @@ module _ {z : Sizes} (m : Mem z) where
   -- .7: at most the snapshot xmin of every occupied slot
   pub compute-global-xmin-is-at-most-each : (s : ℕ) → s < length (take (z .slots) (m .slots)) → getD (getD (take (z .slots) (m .slots)) s []) ID 0 ≢ 0 → globalXmin ≤ getD (getD (take (z .slots) (m .slots)) s []) LOW 0
   compute-global-xmin-is-at-most-each s b n = least-at-most-each (clock m) (occupied LOW (take (z .slots) (m .slots))) _ (occupied-exactly LOW (take (z .slots) (m .slots)) _ .1 (record { slot = s; inside = b; taken = n; word = refl }))
+
+  -- .6: it is `minimum_retention` over all slots, with the clock itself as ceiling
+  pub compute-global-xmin-is-minimum-retention : z .slots ≤ length (m .slots) → globalXmin ≡ minimumRetention (m .slots) (z .slots) (clock m)
+  compute-global-xmin-is-minimum-retention enough = sym (minimum-retention-is-least (m .slots) (z .slots) (clock m) enough)
 
   -- what a vacuum works with is `min_horizon` of its request and that: an equality, of every memory and every request
   pub vacuum-works-with-min-horizon : (request : ℕ) → horizon m request ≡ minHorizon request globalXmin

@@ -47,7 +47,8 @@ use Rattle.upstream.specs.Seen.{firstVisible, reachable}
 use Rattle.upstream.specs.Standing.{reachable-alive, chained-version-is-of-nobody-open, reachable-image-is-valid, open-snapshot-is-well-formed}
 use Rattle.upstream.specs.RetentionTerms.{Eligible, SnapshotWellFormed, Admissible, DataSame, MetadataSameBut, State, stateOf, Newly, firstSeen, prefix, PrefixIneligible, PrefixPreserved, SafeResult}
 use Rattle.upstream.specs.Protected.{sees01, sees01-same, sees000, sees000-same, eligible-is-not-seen, eligible-is-not-seen-under-000}
-use Rattle.upstream.specs.Chains.{along-is-the-chain, first-visible-is-first-seen, down-to-in}
+use Rattle.upstream.specs.Reading.{reachable-is-the-chain}
+use Rattle.upstream.specs.Chains.{first-visible-is-first-seen, down-to-in}
 use Rattle.upstream.specs.Vacuums.{same-data, in-turned}
 use Rattle.rules.specs.Reachable as Reach
 use Rattle.upstream.specs.Vacuums as W
@@ -240,7 +241,7 @@ module _ {z : Sizes} (rm : Roomy z) (m : Mem z) (l : Log) (rc : Reachable m l) w
       pub preserved : PrefixIneligible see (imageOf m) row hz → PrefixPreserved see (stateOf m) (stateOf b) row
 
     in-chain : (x : ℕ) → In x (reachable (imageOf m) (headAt m row)) → In x (chainAt m row .cells)
-    in-chain x i = subst (In x) (along-is-the-chain m (sizeN m) (headAt m row)) i
+    in-chain x i = subst (In x) (reachable-is-the-chain (imageOf m) (sizeN m) (headAt m row)) i
 
     -- nothing changed
     still-safe : (see : Version → Bool) → Safe see m

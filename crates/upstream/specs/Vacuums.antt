@@ -34,7 +34,8 @@ use Rattle.rules.specs.OneOutcome.{KeptOf, vacuum-meets}
 use Rattle.upstream.specs.Images.{Image, imageOf, stored}
 use Rattle.upstream.specs.Seen.{reachable}
 use Rattle.upstream.specs.RetentionTerms.{Eligible, DataSame, MetadataSame, MetadataSameBut, ReportProvenance, firstSeen, downTo, prefix, PrefixIneligible}
-use Rattle.upstream.specs.Chains.{along-is-the-chain, first-without, first-in, next-same-above}
+use Rattle.upstream.specs.Reading.{reachable-is-the-chain}
+use Rattle.upstream.specs.Chains.{first-without, first-in, next-same-above}
 use Rattle.rules.specs.VacuumRemoves as W
 
 pub same-but-next : (v w : Version) (y : ℕ) → w ≡ withNext v y → DataSame v w
@@ -87,10 +88,10 @@ module _ {z : Sizes} (m : Mem z) (row request room : ℕ) (accepted : NoneOf (va
   -- ---- the chain before and after
 
   pub chain-before : reachable (imageOf m) (headAt m row) ≡ h ∷ l
-  chain-before = along-is-the-chain m (sizeN m) (headAt m row) ∙ ap (λ (c : Chain). c .cells) (is-chain (sizeN m) (versionAt (m .cells)) (sizeN m) (headAt m row) (h ∷ l) ends (whole .way, whole .within))
+  chain-before = reachable-is-the-chain (imageOf m) (sizeN m) (headAt m row) ∙ ap (λ (c : Chain). c .cells) (is-chain (sizeN m) (versionAt (m .cells)) (sizeN m) (headAt m row) (h ∷ l) ends (whole .way, whole .within))
 
   pub chain-after : reachable (imageOf after) (headAt after row) ≡ h ∷ k
-  chain-after = along-is-the-chain after (sizeN after) (headAt after row) ∙ ap (λ (c : Chain). c .cells) (W.vacuum-leaves-the-chain-without-them m row request room accepted h l d k whole dead kept)
+  chain-after = reachable-is-the-chain (imageOf after) (sizeN after) (headAt after row) ∙ ap (λ (c : Chain). c .cells) (W.vacuum-leaves-the-chain-without-them m row request room accepted h l d k whole dead kept)
 
   pub along-is-here : h ∷ l ≡ chain (sizeN m) (versionAt (m .cells)) (sizeN m) (headAt m row) .cells
   along-is-here = sym (ap (λ (c : Chain). c .cells) (is-chain (sizeN m) (versionAt (m .cells)) (sizeN m) (headAt m row) (h ∷ l) ends (whole .way, whole .within)))
