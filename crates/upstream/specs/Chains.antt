@@ -1,24 +1,19 @@
 -- The first seen version of a chain, and what lies in front of it, where members of the chain are left out.
-use Prim.Native.Nat.{ℕ, zero, suc}
-use mathlib.Core.Bool.{Bool, true, false, cond}
+use Prim.Native.Nat.{ℕ}
+use mathlib.Core.Bool.{Bool, true, false}
 use mathlib.Core.List.{List, [], _∷_}
-use mathlib.Core.Option.{Option, none, some}
+use mathlib.Core.Option.{some}
 use mathlib.Core.Path.{_≡_, refl, sym, ap, _∙_, subst}
 use mathlib.Core.Logic.{_≢_, inl, inr}
 use native.Mathlib.Omega.{arith}
-use borrow.Author.Tests.{eq-eqb, ne-eqb, lt-ltb, le-ltb, le-leb, lt-leb}
 use Rattle.rules.specs.declared.Version.{Version}
-use Rattle.rules.specs.Sizes.{Sizes}
 use Rattle.rules.specs.Lists.{first}
-use Rattle.rules.specs.Theory.Cases.{byBool, byEq, byLe, no-both}
-use Rattle.rules.specs.Versions.{versionAt}
-use Rattle.rules.specs.Memory.{Mem, sizeN}
-use Rattle.rules.specs.Chain.{chain}
-use Rattle.rules.specs.Exactly.{In, All}
+use Rattle.rules.specs.Theory.Cases.{byBool, no-both}
+use Rattle.rules.specs.Exactly.{In}
 use Rattle.rules.specs.Along.{Along}
 use Rattle.rules.specs.VacuumRefuses.{Picks}
-use Rattle.upstream.specs.Images.{Image, imageOf, stored, Snapshot}
-use Rattle.upstream.specs.Seen.{visible, firstAlong, firstVisible, along, reachable}
+use Rattle.upstream.specs.Images.{Image, Snapshot}
+use Rattle.upstream.specs.Seen.{visible, firstVisible}
 use Rattle.upstream.specs.Reading.{first-visible-is-first-of-the-chain}
 use Rattle.upstream.specs.RetentionTerms.{firstSeen, downTo}
 
@@ -61,11 +56,6 @@ module _ (see : Version → Bool) (f : ℕ → Version) where
   down-to-in (a ∷ l) c (inr i) = byBool (see (f a))
       (λ b. let j : In c [] = rw b at i in absurd j)
       (λ b. inr (down-to-in l c (rw b at i)))
-
-  -- what is in front of the first seen
-  pub down-to-past : (a : ℕ) (l : List ℕ) (c : ℕ) → see (f a) ≡ false → In c (downTo see f l) → In c (downTo see f (a ∷ l))
-  unfolding downTo
-  down-to-past a l c e i = rw e (inr i)
 
 only : (a c : ℕ) → some a ≢ some c → In c (a ∷ []) → ⊥
 only a c m (inl e) = m (ap some (sym e))

@@ -2,16 +2,15 @@
 -- equality, where 000 promises an upper bound.
 use Prim.Native.Nat.{ℕ, min, _<_, _≤_}
 use mathlib.Core.List.{List, [], _∷_}
-use mathlib.Core.Path.{_≡_, refl, sym, ap, _∙_}
-use mathlib.Core.Logic.{_≢_, _↔_, _⊎_, inl, inr, ⊎-elim}
+use mathlib.Core.Path.{_≡_, refl, sym}
+use mathlib.Core.Logic.{_≢_}
 use native.Mathlib.Omega.{arith}
 use lib.ListN.{length, take, getD}
 use Rattle.rules.specs.Sizes.{Sizes, ID, LOW}
 use Rattle.rules.specs.Lists.{least}
 use Rattle.rules.specs.Memory.{Mem, clock}
 use Rattle.rules.specs.Snapshot.{occupied, horizonOf, horizon}
-use Rattle.rules.specs.Horizon.{Occupies, Bound, horizon-is-the-least, horizon-at-most-each-bound, least-at-most, least-at-most-each, occupied-exactly}
-use Rattle.rules.specs.Exactly.{In}
+use Rattle.rules.specs.Horizon.{least-at-most, least-at-most-each, occupied-exactly}
 use Rattle.upstream.specs.LifecycleTerms.{minimumRetention}
 use Rattle.upstream.specs.Lifecycle.{minimum-retention-is-least}
 

@@ -1,22 +1,22 @@
 -- 001's `native_` functions over our calls, of any memory that shows the picture: publication, vacuum, reuse, the old reader, validation,
 -- the release of the anchor. `seeded` is asked for but for the base's lock and the prepared cell's next, which our calls set otherwise.
-use Prim.Native.Nat.{ℕ, suc, _+_, _-_, _<_, _≤_}
+use Prim.Native.Nat.{ℕ, suc, _-_, _≤_}
 use mathlib.Core.Bool.{Bool, true, false, not, _&&_, _||_, cond}
-use mathlib.Core.List.{List, [], _∷_, _++_}
+use mathlib.Core.List.{List, [], _∷_}
 use mathlib.Core.Option.{Option, some, none}
 use mathlib.Core.Path.{_≡_, refl, sym, ap, _∙_, subst}
 use mathlib.Core.Logic.{_≢_, _⊎_, inl, inr, ⊎-elim}
 use native.Mathlib.Omega.{arith}
-use lib.ListN.{length, getD}
+use lib.ListN.{getD}
 use lib.Dec.{eqb, ltb, leb}
 use borrow.Author.Tests.{eq-eqb, ne-eqb, lt-ltb, le-leb}
 use Rattle.rules.specs.declared.Version.{Version}
 use Rattle.rules.specs.declared.Answer.{Answer}
 use Rattle.rules.specs.Sizes.{Sizes}
 use Rattle.rules.specs.Lists.{first, has}
-use Rattle.rules.specs.Versions.{version, newVersion, withXmax, withNext, unlocked, versionOf, cellAt, versionAt}
-use Rattle.rules.specs.Slots.{Slot, Write}
-use Rattle.rules.specs.Memory.{Mem, sizeR, sizeN, headAt, slotAt}
+use Rattle.rules.specs.Versions.{version, newVersion, withXmax, withNext, unlocked, versionOf, versionAt}
+use Rattle.rules.specs.Slots.{Slot}
+use Rattle.rules.specs.Memory.{Mem, sizeN, headAt, slotAt}
 use Rattle.rules.specs.Outcome.{Outcome}
 use Rattle.rules.specs.Commit.{commitOut}
 use Rattle.rules.specs.Theory.Cases.{or-true}
@@ -31,7 +31,7 @@ use Rattle.upstream.specs.Seen.{creatorVisible, visible, along}
 use Rattle.upstream.specs.Transactions.{valueOf}
 use Rattle.upstream.specs.RetentionTerms.{firstSeen}
 use Rattle.upstream.specs.Protected.{sees01, sees000}
-use Rattle.upstream.specs.Story.{Layout, Distinct, write, OldReader, seeded, published, pruned, reused, Agree, AgreeButTail}
+use Rattle.upstream.specs.Story.{Layout, Distinct, write, OldReader, seeded, published, pruned, Agree}
 
 -- ---- what the pictures hold
 
@@ -64,6 +64,11 @@ module _ (l : Layout) (ok : Distinct l) (birth writer before after n : ℕ) wher
 
   pub pruned-fresh : pruned l birth writer before after n .rows (l .fresh) ≡ version writer 0 (l .anchor) 1 after 0 0
   pruned-fresh = rw (ne-eqb (l .fresh) (l .anchor) (λ e. ok .anchorFresh (sym e))) published-fresh
+
+-- native_constructor_clears_metadata: the given value, creator and next, and nothing else set
+pub native-constructor-clears-metadata : (o : Option ℕ) (writer next : ℕ) → (valueOf (newVersion o writer next) ≡ o) × (newVersion o writer next .xmin .0 ≡ writer) × (newVersion o writer next .xmax .0 ≡ 0) × (newVersion o writer next .next .0 ≡ next) × (newVersion o writer next .locked ≡ 0) × (newVersion o writer next .owner .0 ≡ 0)
+native-constructor-clears-metadata none writer next = (refl, refl, refl, refl, refl, refl)
+native-constructor-clears-metadata (some k) writer next = (refl, refl, refl, refl, refl, refl)
 
 -- ---- what the old reader sees
 
@@ -115,7 +120,7 @@ old-reader-sees-under-000 t birth writer old = record {
 -- ---- the first seen of one cell, and of two
 
 module _ (see : Version → Bool) (s : Image) where
-  seen-at-once : (c : ℕ) → CellOf (s .cells) c → see (s .rows c) ≡ true → firstSeen see s c ≡ some c
+  pub seen-at-once : (c : ℕ) → CellOf (s .cells) c → see (s .rows c) ≡ true → firstSeen see s c ≡ some c
   unfolding along first
   seen-at-once c o v =
       let e : s .cells ≡ suc (s .cells - 1) = omega (arith, o .low, o .high) in

@@ -1,37 +1,32 @@
 -- Each lemma on 001's `native_` functions put to the run: what it asks is met together.
-use Prim.Native.Nat.{ℕ, _<_, _≤_}
+use Prim.Native.Nat.{ℕ}
 use mathlib.Core.Bool.{true}
-use mathlib.Core.List.{List, [], _∷_}
-use mathlib.Core.Option.{some, none}
+use mathlib.Core.List.{[], _∷_}
+use mathlib.Core.Option.{some}
 use mathlib.Core.Path.{_≡_, refl, sym, ap, _∙_, subst}
-use mathlib.Core.Logic.{_≢_, inl, inr}
 use native.Mathlib.Omega.{arith}
-use lib.ListN.{length}
-use Rattle.rules.specs.declared.Answer.{Answer}
-use Rattle.rules.specs.declared.Answer.the-variants.{Done, Wrote, Vacuumed}
+use Rattle.rules.specs.declared.Answer.the-variants.{Wrote, Vacuumed}
 use Rattle.rules.specs.declared.ReadAnswer.{ReadAnswer}
 use Rattle.rules.specs.declared.ReadAnswer.the-variants.{Key}
 use Rattle.rules.specs.Sizes.{base, lastId}
 use Rattle.rules.specs.Versions.{at, emptyVersion, versionAt}
 use Rattle.rules.specs.Slots.{Slot, rec, addRecs}
-use Rattle.rules.specs.Memory.{Mem, sizeN, headAt, wordsAt, slotAt, withSlot}
+use Rattle.rules.specs.Memory.{sizeN, wordsAt, slotAt, withSlot}
 use Rattle.rules.specs.Visible.{conflict}
 use Rattle.rules.specs.Outcome.{out}
 use Rattle.rules.specs.Read.{readOut}
-use Rattle.rules.specs.Commit.{commitOut}
-use Rattle.rules.specs.Vacuum.{vacuumOut}
-use Rattle.rules.specs.Exactly.{In, NoneOf, inAnswer, inRead, accepted-none, not-refused}
+use Rattle.rules.specs.Exactly.{NoneOf, inAnswer, inRead, accepted-none, not-refused}
 use Rattle.rules.specs.CommitRefuses.{commitLines}
 use Rattle.rules.specs.CommitAllOrNothing.{commit-accepted-when}
 use Rattle.rules.specs.VacuumRefuses.{vacuumLines, vacuum-refuses-exactly}
 use Rattle.rules.specs.WriteRefuses.{writeLines, write-refuses-exactly}
 use Rattle.rules.specs.ReadRefuses.{readLines, read-refuses-exactly}
-use Rattle.upstream.specs.Images.{imageOf, Snapshot, snapshot}
+use Rattle.upstream.specs.Images.{imageOf, snapshot}
 use Rattle.upstream.specs.Protected.{sees01}
 use Rattle.upstream.specs.Story.{OldReader, published, pruned, Agree, AgreeButTail}
 use Rattle.upstream.specs.Native.{Inside, ReadsTheAnchor, old-reader-sees, native-publication-leaves-published, native-publication-derives-history}
-use Rattle.upstream.specs.NativeVacuum.{native-vacuum-leaves-pruned, native-vacuum-derives-history, native-initialize-preserves-reader, native-read-after-reuse, native-validation-rejects-invisible-writer}
-use Rattle.upstream.specs.NativeRun.{written, afterCommit, afterVacuum, reusing, afterReuse, afterWrite, atEnd, layout, story, layout-is-distinct, layout-is-inside, reader-is-old, pictures}
+use Rattle.upstream.specs.NativeVacuum.{native-vacuum-leaves-pruned, native-initialize-preserves-reader, native-read-after-reuse, native-validation-rejects-invisible-writer}
+use Rattle.upstream.specs.NativeRun.{written, afterCommit, afterVacuum, reusing, afterReuse, afterWrite, layout, story, layout-is-distinct, layout-is-inside, reader-is-old, pictures}
 
 abbrev reader : Slot
 reader = slotAt afterCommit 0

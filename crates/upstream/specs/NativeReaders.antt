@@ -1,18 +1,17 @@
 -- A reachable store in which 000's vacuum contract speaks of one open reader and not of the other: the store of the run in which the reader
 -- (slot 0) has no writes and the writer (slot 1) has prepared one. Vacuum removes a version there, and ours speaks of both.
-use Prim.Native.Nat.{ℕ, _<_}
+use Prim.Native.Nat.{ℕ}
 use mathlib.Core.List.{List, [], _∷_}
-use mathlib.Core.Option.{some, none}
-use mathlib.Core.Path.{_≡_, refl, sym, ap, subst}
+use mathlib.Core.Path.{_≡_, refl, sym, subst}
 use mathlib.Core.Logic.{_≢_, inl}
 use native.Mathlib.Omega.{arith}
 use Rattle.rules.specs.declared.Answer.the-variants.{Vacuumed}
 use Rattle.rules.specs.declared.ReadAnswer.the-variants.{Key}
-use Rattle.rules.specs.Sizes.{base, lastId}
+use Rattle.rules.specs.Sizes.{lastId}
 use Rattle.rules.specs.Lists.{last, fold, has, keep, first, least, greatest, from}
 use Rattle.rules.specs.Versions.{versionOf, wordsOf, cellAt, putCell}
-use Rattle.rules.specs.Slots.{Write, words, threes, slotOf, push, opened}
-use Rattle.rules.specs.Memory.{Mem, headAt, slotAt}
+use Rattle.rules.specs.Slots.{words, threes, slotOf, push, opened}
+use Rattle.rules.specs.Memory.{headAt, slotAt}
 use Rattle.rules.specs.Visible.{creatorVisible, visible, conflict}
 use Rattle.rules.specs.Chain.{look, chain}
 use Rattle.rules.specs.Snapshot.{occupied, vacant, horizonOf, horizon}
@@ -32,8 +31,8 @@ use Rattle.rules.specs.Exactly.{In}
 use Rattle.upstream.specs.Images.{imageOf, snapshot}
 use Rattle.upstream.specs.Publication.{Prepared}
 use Rattle.upstream.specs.RetentionTerms.{Admissible}
-use Rattle.upstream.specs.Protected.{sees01, sees000}
-use Rattle.upstream.specs.Safe.{Safe, reader-without-writes-is-admissible, vacuum-row-acquired-is-safe, vacuum-row-acquired-is-safe-under-000}
+use Rattle.upstream.specs.Protected.{sees01}
+use Rattle.upstream.specs.Safe.{Safe, reader-without-writes-is-admissible, vacuum-row-acquired-is-safe}
 use Rattle.upstream.specs.PreparedWrites.{open-write-is-prepared, reader-with-a-write-is-not-admissible}
 use Rattle.upstream.specs.NativeRun.{lent, toWritten, written, story}
 use Rattle.rules.specs.Slots as S

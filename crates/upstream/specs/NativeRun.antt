@@ -1,19 +1,17 @@
 -- The story of 001 by our calls, computed: two commits of row 0, then the reader (slot 0, id 3) begins; a writer (slot 1, id 4) commits over
 -- it; vacuum takes the tail; its cell is handed out again; the reader reads the anchor, its commit is refused with 9; once it is gone, vacuum
 -- takes the anchor. The layout is tail 1, anchor 2, fresh 3; the birth is 2, the writer 4, the reuser 5.
-use Prim.Native.Nat.{ℕ, _<_, _≤_}
-use mathlib.Core.Bool.{Bool, true, false, cond}
 use mathlib.Core.List.{List, [], _∷_}
 use mathlib.Core.Option.{some, none}
-use mathlib.Core.Path.{_≡_, refl, ap}
-use mathlib.Core.Logic.{_≢_, _⊎_, inl, inr}
+use mathlib.Core.Path.{_≡_, refl}
+use mathlib.Core.Logic.{inl}
 use native.Mathlib.Omega.{arith}
-use lib.ListN.{length, getD, replicate}
+use lib.ListN.{replicate}
 use Rattle.rules.specs.declared.Answer.the-variants.{Done, Begun, Wrote, Vacuumed, Refused}
 use Rattle.rules.specs.declared.ReadAnswer.the-variants.{Key, Empty, None}
 use Rattle.rules.specs.Sizes.{base, lastId}
 use Rattle.rules.specs.Lists.{last, fold, has, keep, first, least, greatest, from}
-use Rattle.rules.specs.Versions.{at, tx, version, newVersion, emptyVersion, unlocked, withNext, versionOf, wordsOf, cellAt, versionAt, putCell}
+use Rattle.rules.specs.Versions.{at, tx, version, newVersion, emptyVersion, versionOf, wordsOf, cellAt, versionAt, putCell}
 use Rattle.rules.specs.Slots.{words, threes, slotOf, push, opened}
 use Rattle.rules.specs.Memory.{Mem, mem, sizeN, free, headAt, slotAt}
 use Rattle.rules.specs.Visible.{creatorVisible, visible, conflict}
@@ -27,13 +25,12 @@ use Rattle.rules.specs.Write.{lockBase, prepared, headTests, writeNow, writeOut
 use Rattle.rules.specs.Commit.{markBase, commitTests, publish, commitOut}
 use Rattle.rules.specs.Abort.{unlockBase, giveBack, abortOut}
 use Rattle.rules.specs.Vacuum.{swept, reclaimable, relink, reports, vacuumNow, vacuumOut}
-use Rattle.rules.specs.Run.{Call, begin, write, commit, abort, vacuum, read, Reply, gave, looked, run, step}
+use Rattle.rules.specs.Run.{Call, begin, write, commit, abort, gave, run, step}
 use Rattle.rules.specs.Reachable.{freeAt}
-use Rattle.upstream.specs.Images.{Image, imageOf, snapshot, Snapshot}
-use Rattle.upstream.specs.Story.{Layout, Distinct, OldReader, seeded, published, pruned, reused, Agree, AgreeButTail}
+use Rattle.upstream.specs.Images.{imageOf, snapshot}
+use Rattle.upstream.specs.Story.{Layout, Distinct, OldReader, published, pruned, reused, Agree, AgreeButTail}
 use Rattle.upstream.specs.Native.{Seeded, Inside}
 use Rattle.upstream.specs.Publication.{publicationPrefix}
-use Rattle.rules.specs.Run as R
 use Rattle.rules.specs.Slots as S
 use Rattle.upstream.specs.Seen as Up
 

@@ -1,8 +1,8 @@
 -- 001's vacuum, reuse, read and validation, over our calls: what each leaves of the picture, and that the old reader reads the anchor on.
-use Prim.Native.Nat.{ℕ, suc, _<_, _≤_}
-use mathlib.Core.Bool.{Bool, true, false}
-use mathlib.Core.List.{List, [], _∷_, _++_}
-use mathlib.Core.Option.{Option, some, none}
+use Prim.Native.Nat.{ℕ, _<_, _≤_}
+use mathlib.Core.Bool.{Bool, true}
+use mathlib.Core.List.{List, [], _∷_}
+use mathlib.Core.Option.{some}
 use mathlib.Core.Path.{_≡_, refl, sym, ap, _∙_, subst}
 use mathlib.Core.Logic.{_≢_, _⊎_, inl, inr, ⊎-elim}
 use native.Mathlib.Omega.{arith}
@@ -10,39 +10,38 @@ use lib.ListN.{length, getD}
 use Rattle.rules.specs.declared.Version.{Version}
 use Rattle.rules.specs.declared.Answer.{Answer}
 use Rattle.rules.specs.declared.Answer.the-variants.{Vacuumed}
-use Rattle.rules.specs.declared.ReadAnswer.{ReadAnswer}
 use Rattle.rules.specs.declared.ReadAnswer.the-variants.{Key}
-use Rattle.rules.specs.Sizes.{Sizes, ROWS, CELLS}
-use Rattle.rules.specs.Versions.{version, newVersion, withNext, lockedFor, emptyVersion, versionOf, cellAt, versionAt}
-use Rattle.rules.specs.Slots.{Slot, Write, Rec, rec, addRecs}
-use Rattle.rules.specs.Memory.{Mem, sizeR, sizeN, free, headAt, wordsAt, slotAt, withSlot}
+use Rattle.rules.specs.Sizes.{Sizes, CELLS}
+use Rattle.rules.specs.Versions.{version, newVersion, withNext, lockedFor, emptyVersion, versionOf, versionAt}
+use Rattle.rules.specs.Slots.{Slot, rec, addRecs}
+use Rattle.rules.specs.Memory.{Mem, sizeN, free, headAt, wordsAt, slotAt, withSlot}
 use Rattle.rules.specs.Visible.{conflict}
-use Rattle.rules.specs.Chain.{ends, Chain}
 use Rattle.rules.specs.Snapshot.{horizon}
 use Rattle.rules.specs.Outcome.{Outcome, out}
 use Rattle.rules.specs.Read.{answerAt, readOut}
 use Rattle.rules.specs.Write.{writeOut}
 use Rattle.rules.specs.Commit.{commitOut}
 use Rattle.rules.specs.Vacuum.{vacuumOut}
-use Rattle.rules.specs.Theory.Cases.{byBool, byEq}
-use Rattle.rules.specs.Exactly.{In, All, NoneOf, holds-true, fails-false}
-use Rattle.rules.specs.Terms.{CellOf, is-cell, Sees, is-conflicting, NoEntry}
-use Rattle.rules.specs.Along.{Along, Way}
+use Rattle.rules.specs.Theory.Cases.{byEq}
+use Rattle.rules.specs.Exactly.{In, NoneOf, holds-true}
+use Rattle.rules.specs.Terms.{CellOf, is-conflicting, NoEntry}
+use Rattle.rules.specs.Along.{Way}
 use Rattle.rules.specs.Members.{all-in}
 use Rattle.rules.specs.ChainOnce.{along-one}
 use Rattle.rules.specs.HandedOut.{FreeList}
-use Rattle.rules.specs.VacuumRefuses.{Reclaimable, Picks, WholeChain, DeadOf, vacuumLines, ended-chain, vacuum-refuses-exactly}
+use Rattle.rules.specs.VacuumRefuses.{Reclaimable, WholeChain, DeadOf, vacuumLines, ended-chain, vacuum-refuses-exactly}
 use Rattle.rules.specs.OneOutcome.{KeptOf, vacuum-walks, read-meets}
-use Rattle.rules.specs.ReadRefuses.{Reads, newly, readLines}
+use Rattle.rules.specs.ReadRefuses.{newly, readLines}
 use Rattle.rules.specs.ReadAnswers.{aKey, is-answer}
 use Rattle.rules.specs.WriteRefuses.{writeLines}
 use Rattle.rules.specs.WritePrepares.{write-prepares-the-cell, write-locks-the-base, write-keeps-other-cells, write-moves-no-head}
 use Rattle.rules.specs.CommitRefusedWhen.{Validating, commit-refused-9-names-first-conflicting-record}
-use Rattle.upstream.specs.Images.{Image, imageOf, Snapshot, snapshot}
+use Rattle.upstream.specs.Images.{imageOf, snapshot}
 use Rattle.upstream.specs.Transactions.{valueOf}
+use Rattle.upstream.specs.RetentionTerms.{firstSeen}
 use Rattle.upstream.specs.Vacuums.{vacuum-row-acquired-recycles, vacuum-row-acquired-counts-its-reports}
-use Rattle.upstream.specs.Story.{Layout, Distinct, OldReader, published, pruned, reused, Agree, AgreeButTail}
-use Rattle.upstream.specs.Native.{Inside, SeesTheBirth, ReadsTheAnchor, reads-the-anchor-behind-the-writer, published-tail, published-anchor, published-fresh, pruned-anchor, pruned-fresh, old-reader-sees-the-birth, old-reader-misses-the-writer}
+use Rattle.upstream.specs.Story.{Layout, Distinct, OldReader, published, pruned, Agree, AgreeButTail}
+use Rattle.upstream.specs.Native.{Inside, seen-at-once, SeesTheBirth, ReadsTheAnchor, reads-the-anchor-behind-the-writer, published-tail, published-anchor, published-fresh, pruned-anchor, pruned-fresh, old-reader-sees-the-birth, old-reader-misses-the-writer}
 use Rattle.rules.specs.VacuumRemoves as W
 
 -- ---- a memory that shows `pruned`, whatever its tail holds
@@ -225,6 +224,12 @@ module _ {z : Sizes} (m : Mem z) (l : Layout) (ok : Distinct l) (n birth writer 
       (λ e. (ap (λ (v : Version). v .xmin .0) (e .1) ∙ ap (λ (v : Version). v .xmin .0) f, ap (λ (v : Version). v .next .0) (e .1) ∙ ap (λ (v : Version). v .next .0) f))
       (r .3) in
       reads-the-anchor-behind-the-writer reusing l ok inside birth writer before see old (r .2 ∙ sym (agree .head)) (same .0) (same .1) (ap (λ (v : Version). v .xmin .0) a) (ap (λ (v : Version). v .xmax .0) a) (ap valueOf a)
+
+  -- .11: and from the anchor itself it finds the anchor
+  pub native-initialize-keeps-the-anchor-seen : CellOf (sizeN reusing) (l .anchor) → (see : Version → Bool) → SeesTheBirth see birth writer → firstSeen see (imageOf reusing) (l .anchor) ≡ some (l .anchor)
+  native-initialize-keeps-the-anchor-seen o see old =
+      let a = native-initialize-leaves-reused .1 ∙ pruned-at-anchor m l ok n birth writer before after agree in
+      seen-at-once see (imageOf reusing) (l .anchor) o (old .seen (versionAt (reusing .cells) (l .anchor)) (ap (λ (v : Version). v .xmin .0) a) (inr (ap (λ (v : Version). v .xmax .0) a)))
 
 -- ---- native_read_after_reuse and native_validation_rejects_invisible_writer
 

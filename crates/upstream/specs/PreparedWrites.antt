@@ -1,28 +1,27 @@
 -- 000's `prepared` is a fact of every reachable store: each entry of an open write set whose base is its row's head is prepared. (The base
 -- of an entry made on an empty row may have been overtaken: such a commit is refused with 8.)
 use Prim.Native.Nat.{ℕ, zero, suc, _+_, _≤_, _<_}
-use mathlib.Core.Bool.{Bool, true, false, not}
-use mathlib.Core.List.{List, [], _∷_, _++_}
+use mathlib.Core.Bool.{true}
+use mathlib.Core.List.{List, [], _∷_}
 use mathlib.Core.Path.{_≡_, refl, sym, ap, _∙_, subst}
 use mathlib.Core.Logic.{_≢_, _⊎_, inl, inr, ⊎-elim}
 use native.Mathlib.Omega.{arith}
-use lib.ListN.{length, getD}
 use borrow.Author.Tests.{not-false, ne-eqb}
 use Rattle.rules.specs.declared.Version.{Version}
 use Rattle.rules.specs.Sizes.{Sizes, Roomy}
 use Rattle.rules.specs.Lists.{from}
 use Rattle.rules.specs.Versions.{versionAt}
 use Rattle.rules.specs.Slots.{Write, Slot}
-use Rattle.rules.specs.Memory.{Mem, sizeR, sizeN, headAt, slotAt}
-use Rattle.rules.specs.Chain.{After, ends, goesOn, broken, Chain, chain}
+use Rattle.rules.specs.Memory.{Mem, sizeN, headAt, slotAt}
+use Rattle.rules.specs.Chain.{ends}
 use Rattle.rules.specs.Abort.{news}
 use Rattle.rules.specs.History.{Log, whoIn, rowsIn, cellsIn}
-use Rattle.rules.specs.Reachable.{Reachable, chainAt, freeAt, times, joined}
-use Rattle.rules.specs.Exactly.{In, All, holds-true}
+use Rattle.rules.specs.Reachable.{Reachable, chainAt, times, joined}
+use Rattle.rules.specs.Exactly.{In, holds-true}
 use Rattle.rules.specs.Terms.{CellOf, is-cell}
 use Rattle.rules.specs.Along.{Along, ChainIs, chain-is, positive}
-use Rattle.rules.specs.Theory.Cases.{byBool, byEq}
-use Rattle.rules.specs.Theory.View.{View, viewOf, get-slots}
+use Rattle.rules.specs.Theory.Cases.{byEq}
+use Rattle.rules.specs.Theory.View.{viewOf, get-slots}
 use Rattle.rules.specs.Theory.Effects.{slotV}
 use Rattle.rules.specs.Theory.Inv.{Ver, verOf, vers, Entries}
 use Rattle.rules.specs.Theory.Good.{Owner, view-open, view-id}
@@ -31,7 +30,7 @@ use Rattle.rules.specs.Theory.Never.{open-slot, all-entered}
 use Rattle.rules.specs.Theory.ReadLaw.{reachable-sound}
 use Rattle.rules.specs.Members.{in-or-not, in-append}
 use Rattle.rules.specs.Demand3.{every-chain-ends, chained-cell-is-nowhere-else, sizes-are-the-creations, head-is-not-superseded, slot-has-the-open-id}
-use Rattle.upstream.specs.Images.{Image, imageOf, stored, snapshot}
+use Rattle.upstream.specs.Images.{imageOf, stored, snapshot}
 use Rattle.upstream.specs.Standing.{reachable-image-is-valid, unchained-cell-links-to-nothing}
 use Rattle.upstream.specs.Publication.{Prepared}
 use Rattle.upstream.specs.RetentionTerms.{Admissible}

@@ -1,24 +1,23 @@
 -- What the horizon protects: a reader whose snapshot xmin is at or above it sees no eligible version. Under 01's rule that holds of every
 -- such reader; under 000's it needs that the version is not the reader's own, since 000 sees an own version whatever its xmax.
 use Prim.Native.Nat.{ℕ, _≤_, _<_}
-use mathlib.Core.Bool.{Bool, true, false, _||_, _&&_}
-use mathlib.Core.List.{List, [], _∷_}
-use mathlib.Core.Path.{_≡_, refl, sym, ap, _∙_}
+use mathlib.Core.Bool.{Bool, false}
+use mathlib.Core.Path.{_≡_}
 use mathlib.Core.Logic.{_≢_, inr}
 use native.Mathlib.Omega.{arith}
-use lib.Dec.{eqb, leb}
+use lib.Dec.{leb}
 use borrow.Author.Tests.{ne-eqb, lt-leb}
 use Rattle.rules.specs.declared.Version.{Version}
 use Rattle.rules.specs.Lists.{has}
 use Rattle.rules.specs.Slots.{Slot}
 use Rattle.rules.specs.Visible as Here
-use Rattle.rules.specs.Exactly.{In, All, is-in, fails-false}
+use Rattle.rules.specs.Exactly.{In, is-in, fails-false}
 use Rattle.rules.specs.Terms.{is-seen}
 use Rattle.rules.specs.Members.{all-in}
 use Rattle.rules.specs.Theory.Cases.{and-false}
-use Rattle.upstream.specs.Images.{Image, Snapshot, snapshot, stored}
-use Rattle.upstream.specs.Seen.{creatorVisible, visible}
-use Rattle.upstream.specs.RetentionTerms.{Eligible, DataSame, SnapshotWellFormed, Admissible}
+use Rattle.upstream.specs.Images.{Snapshot, snapshot}
+use Rattle.upstream.specs.Seen.{visible}
+use Rattle.upstream.specs.RetentionTerms.{Eligible, DataSame, SnapshotWellFormed}
 
 -- the two rules as tests of a version
 abbrev pub sees01 : Slot → Version → Bool

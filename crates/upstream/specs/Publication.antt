@@ -1,7 +1,7 @@
 -- 000, module publication: its terms over an image. One write is published in three steps: the base marked, the new cell linked, the head
 -- moved; `publication_prefix` is the image after the first so many of them.
 use Prim.Native.Nat.{ℕ, zero, suc, _<_}
-use mathlib.Core.Bool.{Bool, true, cond}
+use mathlib.Core.Bool.{true, cond}
 use mathlib.Core.Logic.{_≢_, _⊎_}
 use mathlib.Core.Path.{_≡_}
 use lib.Dec.{eqb}
@@ -56,7 +56,7 @@ pub record Prepared (s : Image) (w : Write) (id : ℕ) : Type 0 where
 -- one image in all its parts
 pub record Same (a b : Image) : Type 0 where
   pub heads : (r : ℕ) → r < a .capacity → a .heads r ≡ b .heads r
-  pub rows : (p : ℕ) → a .rows p ≡ b .rows p
+  pub rows : (p : ℕ) → stored a p ≡ true → a .rows p ≡ b .rows p
   pub cells : a .cells ≡ b .cells
   pub capacity : a .capacity ≡ b .capacity
 

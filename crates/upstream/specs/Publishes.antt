@@ -1,33 +1,29 @@
 -- 000, `publish_prepared_write_set`: an accepted commit leaves the image of phase 3, but for the base's lock and owner; a refused one
 -- leaves the image of phase 0. Of any memory, and of one write, as 000 has it; what several leave stands in the rules
 -- (CommitPublishes.antt, CommitAllOrNothing.antt).
-use Prim.Native.Nat.{ℕ, _≤_, _<_}
-use mathlib.Core.Bool.{Bool, true, cond}
+use Prim.Native.Nat.{ℕ}
 use mathlib.Core.List.{List, [], _∷_}
 use mathlib.Core.Path.{_≡_, refl, sym, ap, _∙_, subst}
 use mathlib.Core.Logic.{_≢_, _⊎_, inl, inr, ⊎-elim}
 use native.Mathlib.Omega.{arith}
-use lib.ListN.{length, getD}
-use lib.Dec.{eqb}
+use lib.ListN.{getD}
 use borrow.Author.Tests.{eq-eqb, ne-eqb}
 use Rattle.rules.specs.declared.Version.{Version}
 use Rattle.rules.specs.declared.Answer.{Answer}
-use Rattle.rules.specs.declared.Answer.the-variants.{Done}
 use Rattle.rules.specs.Sizes.{Sizes, ROWS, CELLS}
-use Rattle.rules.specs.Versions.{withXmax, withNext, unlocked, versionOf, cellAt, versionAt}
+use Rattle.rules.specs.Versions.{withXmax, withNext, unlocked, versionOf, versionAt}
 use Rattle.rules.specs.Slots.{Write}
-use Rattle.rules.specs.Memory.{Mem, sizeR, sizeN, headAt, slotAt}
+use Rattle.rules.specs.Memory.{Mem, slotAt}
 use Rattle.rules.specs.Outcome.{Outcome}
 use Rattle.rules.specs.Commit.{commitOut}
-use Rattle.rules.specs.Exactly.{In, All, NoneOf}
-use Rattle.rules.specs.Terms.{NoEntry}
-use Rattle.rules.specs.Theory.Cases.{byBool, byEq}
+use Rattle.rules.specs.Exactly.{In, NoneOf}
+use Rattle.rules.specs.Terms.{is-cell}
+use Rattle.rules.specs.Theory.Cases.{byEq}
 use Rattle.rules.specs.CommitRefuses.{commitLines, commit-refuses-exactly}
-use Rattle.rules.specs.CommitAllOrNothing.{commit-accepted-when}
 use Rattle.rules.specs.Published.{Apart}
 use Rattle.rules.specs.CommitPublishes.{commit-moves-each-head, commit-keeps-other-heads, commit-marks-each-base, commit-links-each-new, commit-keeps-other-cells, commit-keeps-the-clock}
-use Rattle.upstream.specs.Images.{Image, imageOf, stored}
-use Rattle.upstream.specs.Publication.{setRow, deleted, linked, publicationPrefix, SameButLock}
+use Rattle.upstream.specs.Images.{Image, imageOf}
+use Rattle.upstream.specs.Publication.{publicationPrefix, Same, SameButLock, AllowedPrefix}
 
 -- ---- phase 3, head by head and cell by cell
 
@@ -101,4 +97,15 @@ module _ {z : Sizes} (m : Mem z) (s id : ℕ) (w : Write) (one : slotAt m s .wri
   publish-prepared-write-set-all-or-nothing = ⊎-elim
       (λ a. inl (publish-prepared-write-set-prefix-is-whole a))
       (λ q. inr (ap (λ (o : Outcome z Answer ℕ). o .after) (commit-refuses-exactly m s id .when (q .0) (q .1) (q .2))))
+      (commit-refuses-exactly m s id .decided)
+
+  -- .4: so 000's `allowed_prefix` holds as it stands where the base was not locked
+  pub publish-prepared-write-set-is-an-allowed-prefix : (w .base ≢ 0 → unlocked (versionAt (m .cells) (w .base)) ≡ versionAt (m .cells) (w .base)) → AllowedPrefix (imageOf m) (imageOf after) w id
+  publish-prepared-write-set-is-an-allowed-prefix free = ⊎-elim
+      (λ a.
+      let q = publish-prepared-write-set-prefix-is-whole a in
+      inr (inr (inr (record { heads = q .heads; rows = λ p st. publish-prepared-write-set-exact-without-lock a free p (λ e. omega (arith, is-cell _ p .yes st .low, e)); cells = q .cells; capacity = q .capacity }))))
+      (λ q.
+      let e : after ≡ m = ap (λ (o : Outcome z Answer ℕ). o .after) (commit-refuses-exactly m s id .when (q .0) (q .1) (q .2)) in
+      inl (subst (λ (b : Mem z). Same (imageOf m) (imageOf b)) (sym e) (record { heads = λ r b. refl; rows = λ p st. refl; cells = refl; capacity = refl })))
       (commit-refuses-exactly m s id .decided)

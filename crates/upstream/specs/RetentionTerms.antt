@@ -9,7 +9,7 @@ use mathlib.Core.Path.{_≡_}
 use Rattle.rules.specs.declared.Version.{Version}
 use Rattle.rules.specs.Sizes.{Sizes}
 use Rattle.rules.specs.Lists.{first}
-use Rattle.rules.specs.Versions.{emptyVersion, withNext}
+use Rattle.rules.specs.Versions.{emptyVersion}
 use Rattle.rules.specs.Memory.{Mem}
 use Rattle.rules.specs.Exactly.{In, All}
 use Rattle.rules.specs.VacuumRefuses.{Reclaimable}

@@ -3,30 +3,28 @@
 use Prim.Native.Nat.{ℕ, _<_, _≤_}
 use mathlib.Core.Bool.{Bool, true, false}
 use mathlib.Core.List.{List, [], _∷_, reverseAux}
-use mathlib.Core.Option.{Option, none, some}
+use mathlib.Core.Option.{some}
 use mathlib.Core.Path.{_≡_, refl, sym, ap, _∙_, subst}
 use mathlib.Core.Logic.{_≢_, _⊎_, inl, inr, ⊎-elim}
 use native.Mathlib.Omega.{arith}
-use lib.ListN.{length, getD}
-use lib.Dec.{eqb}
 use borrow.Author.Tests.{eq-eqb, ne-eqb}
 use Rattle.rules.specs.declared.Version.{Version}
 use Rattle.rules.specs.declared.Answer.{Answer}
 use Rattle.rules.specs.Sizes.{Sizes, Roomy}
 use Rattle.rules.specs.Versions.{withNext, emptyVersion, versionAt, linkAt}
 use Rattle.rules.specs.Slots.{Slot}
-use Rattle.rules.specs.Memory.{Mem, sizeR, sizeN, free, headAt, slotAt}
-use Rattle.rules.specs.Chain.{After, ends, goesOn, broken, Chain, chain}
+use Rattle.rules.specs.Memory.{Mem, sizeN, free, headAt, slotAt}
+use Rattle.rules.specs.Chain.{After, ends, goesOn, broken}
 use Rattle.rules.specs.Snapshot.{horizon}
-use Rattle.rules.specs.Outcome.{Outcome, out, isCell}
+use Rattle.rules.specs.Outcome.{Outcome, isCell}
 use Rattle.rules.specs.Vacuum.{vacuumOut}
-use Rattle.rules.specs.Run.{Call, vacuum, step, run}
+use Rattle.rules.specs.Run.{vacuum, step, run}
 use Rattle.rules.specs.History.{Log, logOf, whoIn, rowsIn, cellsIn}
 use Rattle.rules.specs.Reachable.{Reachable, chainAt, freeAt, times, behind}
 use Rattle.rules.specs.Exactly.{In, All, NoneOf, holds-true, is-not}
 use Rattle.rules.specs.Terms.{CellOf, is-cell}
 use Rattle.rules.specs.Along.{Along, ChainIs, chain-is}
-use Rattle.rules.specs.Theory.Cases.{byBool, byEq}
+use Rattle.rules.specs.Theory.Cases.{byEq}
 use Rattle.rules.specs.Theory.View.{viewOf, get-slots}
 use Rattle.rules.specs.Theory.Effects.{slotV}
 use Rattle.rules.specs.Theory.Counting.{cnt}
@@ -38,14 +36,14 @@ use Rattle.rules.specs.Theory.ReadLaw.{reachable-sound}
 use Rattle.rules.specs.Theory.VacuumCall.{horizon-under}
 use Rattle.rules.specs.Members.{all-in, in-all}
 use Rattle.rules.specs.HandedOut.{FreeFrom, FreeList}
-use Rattle.rules.specs.VacuumRefuses.{Reclaimable, is-reclaimable, Picks, keep-picks, WholeChain, DeadOf, vacuumLines, vacuum-refuses-exactly}
+use Rattle.rules.specs.VacuumRefuses.{Reclaimable, is-reclaimable, keep-picks, WholeChain, DeadOf, vacuumLines, vacuum-refuses-exactly}
 use Rattle.rules.specs.OneOutcome.{KeptOf, vacuum-walks}
 use Rattle.rules.specs.VacuumRemoves.{vacuum-of-an-empty-row}
 use Rattle.rules.specs.Demand3.{calls-lead-to-reachable-stores, free-list-ends, chained-cell-is-nowhere-else, vacuum-removes-nothing-that-a-reader-sees, sizes-are-the-creations, slot-has-the-open-id}
-use Rattle.upstream.specs.Images.{Image, imageOf, stored, ImageValid, Snapshot, snapshot}
+use Rattle.upstream.specs.Images.{imageOf, Snapshot, snapshot}
 use Rattle.upstream.specs.Seen.{firstVisible, reachable}
 use Rattle.upstream.specs.Standing.{reachable-alive, chained-version-is-of-nobody-open, reachable-image-is-valid, open-snapshot-is-well-formed}
-use Rattle.upstream.specs.RetentionTerms.{Eligible, SnapshotWellFormed, Admissible, DataSame, MetadataSameBut, State, stateOf, Newly, firstSeen, prefix, PrefixIneligible, PrefixPreserved, SafeResult}
+use Rattle.upstream.specs.RetentionTerms.{Eligible, SnapshotWellFormed, Admissible, DataSame, stateOf, Newly, firstSeen, prefix, PrefixIneligible, PrefixPreserved, SafeResult}
 use Rattle.upstream.specs.Protected.{sees01, sees01-same, sees000, sees000-same, eligible-is-not-seen, eligible-is-not-seen-under-000}
 use Rattle.upstream.specs.Reading.{reachable-is-the-chain}
 use Rattle.upstream.specs.Chains.{first-visible-is-first-seen, down-to-in}

@@ -1,7 +1,6 @@
 -- Gap 5: 000's `image_valid` lets two rows share a tail, so that freeing for one row can hurt the other. No reachable store has one.
 use Prim.Native.Nat.{ℕ, _<_}
-use mathlib.Core.Bool.{true}
-use mathlib.Core.List.{List, [], _∷_}
+use mathlib.Core.List.{[], _∷_}
 use mathlib.Core.Path.{_≡_, refl}
 use mathlib.Core.Logic.{_≢_, inl, inr}
 use native.Mathlib.Omega.{arith}
@@ -9,19 +8,19 @@ use lib.ListN.{replicate}
 use Rattle.rules.specs.declared.Answer.the-variants.{Vacuumed}
 use Rattle.rules.specs.declared.ReadAnswer.the-variants.{Key}
 use Rattle.rules.specs.Sizes.{Sizes, Roomy, base, lastId}
-use Rattle.rules.specs.Lists.{keep, first, fold, least, from, has}
+use Rattle.rules.specs.Lists.{keep, first, fold, least}
 use Rattle.rules.specs.Versions.{version, emptyVersion, wordsOf, versionOf, cellAt, versionAt, putCell}
-use Rattle.rules.specs.Memory.{Mem, mem, sizeR, headAt}
+use Rattle.rules.specs.Memory.{Mem, mem}
 use Rattle.rules.specs.Chain.{chain}
 use Rattle.rules.specs.Snapshot.{occupied, horizonOf}
 use Rattle.rules.specs.Outcome.{guard, fits, storeTests}
 use Rattle.rules.specs.Abort.{giveBack}
 use Rattle.rules.specs.Vacuum.{reclaimable, relink, reports, swept, vacuumNow, vacuumOut}
 use Rattle.rules.specs.History.{Log, rowsIn}
-use Rattle.rules.specs.Reachable.{Reachable, chainAt, times}
+use Rattle.rules.specs.Reachable.{Reachable, chainAt}
 use Rattle.rules.specs.Exactly.{In}
 use Rattle.rules.specs.Demand3.{chained-cell-is-nowhere-else, sizes-are-the-creations}
-use Rattle.upstream.specs.Images.{Image, ImageValid, imageOf}
+use Rattle.upstream.specs.Images.{Image, ImageValid}
 use Rattle.upstream.specs.Safe.{in-times}
 
 -- rows 0 and 1 have heads of their own, 2 and 3, over one tail, 1, which has been superseded

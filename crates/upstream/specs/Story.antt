@@ -1,13 +1,11 @@
 -- 001 and the root of 000: one row, whose version `anchor` lies over `tail`; a writer publishes `fresh` over it; vacuum takes the tail; its
 -- cell is used anew; a reader that began before the writer still reads the anchor. The pictures, and who reads.
 use Prim.Native.Nat.{ℕ, _<_, _≤_}
-use mathlib.Core.Bool.{Bool, true, false, cond}
-use mathlib.Core.List.{List, [], _∷_}
-use mathlib.Core.Option.{some, none}
+use mathlib.Core.Bool.{false, cond}
+use mathlib.Core.Option.{some}
 use mathlib.Core.Path.{_≡_}
 use mathlib.Core.Logic.{_≢_, _⊎_}
 use lib.Dec.{eqb}
-use Rattle.rules.specs.declared.Version.{Version}
 use Rattle.rules.specs.Versions.{version, newVersion, emptyVersion}
 use Rattle.rules.specs.Slots.{Write}
 use Rattle.rules.specs.Exactly.{In, All}

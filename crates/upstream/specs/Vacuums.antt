@@ -1,9 +1,9 @@
 -- 000, `vacuum_row_acquired`, clause by clause, of an accepted vacuum on any memory. The row's chain is h and then l; d are the eligible of
 -- l, in order, and k the others; fl is the free list before.
-use Prim.Native.Nat.{ℕ, _<_, _≤_}
-use mathlib.Core.Bool.{Bool, true, false}
+use Prim.Native.Nat.{ℕ, _<_}
+use mathlib.Core.Bool.{Bool, false}
 use mathlib.Core.List.{List, [], _∷_, map, reverseAux}
-use mathlib.Core.Option.{Option, none, some}
+use mathlib.Core.Option.{some}
 use mathlib.Core.Path.{_≡_, refl, sym, ap, _∙_, subst}
 use mathlib.Core.Logic.{_≢_, _↔_, _⊎_, inl, inr, ⊎-elim}
 use native.Mathlib.Omega.{arith}
@@ -13,7 +13,7 @@ use Rattle.rules.specs.declared.Version.{Version}
 use Rattle.rules.specs.declared.Answer.{Answer}
 use Rattle.rules.specs.Sizes.{Sizes, ROWS, CELLS, FREE}
 use Rattle.rules.specs.Lists.{first}
-use Rattle.rules.specs.Versions.{at, withNext, emptyVersion, versionOf, cellAt, versionAt, linkAt}
+use Rattle.rules.specs.Versions.{at, withNext, versionOf, cellAt, versionAt}
 use Rattle.rules.specs.Memory.{Mem, sizeR, sizeN, headAt, withCells}
 use Rattle.rules.specs.Chain.{ends, Chain, chain}
 use Rattle.rules.specs.Snapshot.{horizon}
@@ -22,7 +22,7 @@ use Rattle.rules.specs.Vacuum.{relink, vacuumOut}
 use Rattle.rules.specs.Exactly.{In, All, NoneOf, holds-true}
 use Rattle.rules.specs.Terms.{Fitting, store-fits, CellOf, is-cell}
 use Rattle.rules.specs.Along.{Along, is-chain}
-use Rattle.rules.specs.Theory.Cases.{byBool, no-both}
+use Rattle.rules.specs.Theory.Cases.{no-both}
 use Rattle.rules.specs.Theory.CellLaws.{HasCell}
 use Rattle.rules.specs.Members.{Once, in-or-not, all-in, in-all}
 use Rattle.rules.specs.ChainOnce.{chain-passes-each-cell-once}
@@ -31,9 +31,9 @@ use Rattle.rules.specs.Relinked.{relink-length, relink-else}
 use Rattle.rules.specs.HandedOut.{FreeList, free-agree, give-all-in-front}
 use Rattle.rules.specs.VacuumRefuses.{Reclaimable, WholeChain, DeadOf, vacuumLines, ended-chain}
 use Rattle.rules.specs.OneOutcome.{KeptOf, vacuum-meets}
-use Rattle.upstream.specs.Images.{Image, imageOf, stored}
+use Rattle.upstream.specs.Images.{imageOf}
 use Rattle.upstream.specs.Seen.{reachable}
-use Rattle.upstream.specs.RetentionTerms.{Eligible, DataSame, MetadataSame, MetadataSameBut, ReportProvenance, firstSeen, downTo, prefix, PrefixIneligible}
+use Rattle.upstream.specs.RetentionTerms.{Eligible, DataSame, MetadataSame, MetadataSameBut, ReportProvenance, firstSeen, prefix, PrefixIneligible}
 use Rattle.upstream.specs.Reading.{reachable-is-the-chain}
 use Rattle.upstream.specs.Chains.{first-without, first-in, next-same-above}
 use Rattle.rules.specs.VacuumRemoves as W
