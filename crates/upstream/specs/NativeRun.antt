@@ -11,7 +11,7 @@ use Rattle.rules.specs.declared.Answer.the-variants.{Done, Begun, Wrote, Vacuum
 use Rattle.rules.specs.declared.ReadAnswer.the-variants.{Key, Empty, None}
 use Rattle.rules.specs.Sizes.{base, lastId}
 use Rattle.rules.specs.Lists.{last, fold, has, keep, first, least, greatest, from}
-use Rattle.rules.specs.Versions.{at, tx, version, newVersion, emptyVersion, versionOf, wordsOf, cellAt, versionAt, putCell}
+use Rattle.rules.specs.Versions.{at, tx, version, newVersion, emptyVersion, versionOf, wordsOf, cellAt, versionAt, linkAt, putCell}
 use Rattle.rules.specs.Slots.{words, threes, slotOf, push, opened}
 use Rattle.rules.specs.Memory.{Mem, mem, sizeN, free, headAt, slotAt}
 use Rattle.rules.specs.Visible.{creatorVisible, visible, conflict}
@@ -90,6 +90,7 @@ pub record Told : Type 0 where
   pub sweeps : vacuumOut afterCommit 0 lastId 1 .answer ≡ Vacuumed 1 (Key 75)
   pub reports : vacuumOut afterCommit 0 lastId 1 .front ≡ (1 ∷ 0 ∷ 0 ∷ []) ∷ []
   pub horizonThen : horizon afterCommit lastId ≡ 3
+  pub freeLinks : (free afterCommit ≡ 4) × (linkAt (afterCommit .cells) 4 ≡ 0) × (free atEnd ≡ 4) × (linkAt (atEnd .cells) 4 ≡ 0)
   pub freeBefore : freeAt afterCommit .cells ≡ 4 ∷ []
   pub reuserWrites : writeOut reusing 1 5 1 (some 5) .answer ≡ Wrote (at 1)
   pub reuserSlot : slotAt reusing 1 .writes ≡ []
@@ -102,6 +103,7 @@ pub record Told : Type 0 where
   pub reads : readOut afterReuse 0 3 0 .answer ≡ Key 70
   pub records : slotAt afterRead 0 .recs ≡ S.rec 0 2 2 ∷ []
   pub readerWrites : writeOut afterRead 0 3 1 (some 9) .answer ≡ Wrote (at 4)
+  pub readerRefused : commitOut afterWrite 0 3 .answer ≡ Refused 9 0
   pub readerStands : slotAt afterWrite 0 ≡ record { id = 3; low = 3; top = 4; active = 3 ∷ []; writes = S.write 1 0 4 ∷ []; recs = S.rec 0 2 2 ∷ [] }
   pub end : run toEnd afterWrite .0 ≡ gave (Refused 9 0) [] ∷ gave Done [] ∷ gave Done [] ∷ gave (Begun 0 (tx 6)) [] ∷ []
   pub horizonEnd : horizon atEnd lastId ≡ 6
@@ -123,6 +125,7 @@ story =
       sweeps = refl;
       reports = refl;
       horizonThen = refl;
+      freeLinks = (refl, refl, refl, refl);
       freeBefore = refl;
       reuserWrites = refl;
       reuserSlot = refl;
@@ -135,6 +138,7 @@ story =
       reads = refl;
       records = refl;
       readerWrites = refl;
+      readerRefused = refl;
       readerStands = refl;
       end = refl;
       horizonEnd = refl;

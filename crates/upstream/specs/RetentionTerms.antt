@@ -6,9 +6,12 @@ use mathlib.Core.List.{List, [], _∷_}
 use mathlib.Core.Logic.{_≢_}
 use mathlib.Core.Option.{Option, none, some}
 use mathlib.Core.Path.{_≡_}
+use lib.ListN.{getD}
 use Rattle.rules.specs.declared.Version.{Version}
+use Rattle.rules.specs.declared.ReadAnswer.{ReadAnswer}
+use Rattle.rules.specs.declared.ReadAnswer.the-variants.{None, Empty, Key}
 use Rattle.rules.specs.Sizes.{Sizes}
-use Rattle.rules.specs.Lists.{first}
+use Rattle.rules.specs.Lists.{nonzero, first}
 use Rattle.rules.specs.Versions.{emptyVersion}
 use Rattle.rules.specs.Memory.{Mem}
 use Rattle.rules.specs.Exactly.{In, All}
@@ -16,6 +19,7 @@ use Rattle.rules.specs.VacuumRefuses.{Reclaimable}
 use Rattle.rules.specs.Reachable.{freeAt}
 use Rattle.upstream.specs.Images.{Image, imageOf, stored, ImageValid, Snapshot}
 use Rattle.upstream.specs.Seen.{reachable}
+use Rattle.upstream.specs.Transactions.{valueOf}
 use Rattle.upstream.specs.Publication.{setNext}
 
 -- `eligible`: xmax not 0, below the horizon, unlocked. It is 01's "reclaimable", but for the head
@@ -78,6 +82,27 @@ Newly a b x = In x (b .recycled) × (In x (a .recycled) → ⊥)
 -- `report_provenance`: each report is of a removed version, with its value as it was. A report is the cell, whether it had a key, the key
 abbrev pub ReportProvenance : Image → List ℕ → List (List ℕ) → Type 0
 ReportProvenance s removed reports = All (λ (q : List ℕ). (p : ℕ) × In p removed × (q ≡ p ∷ s .rows p .keyed ∷ s .rows p .key ∷ [])) reports
+
+-- `Reclaimed`: a report as 000 has it, with the row and the live head's value in each
+pub record Reclaimed : Type 0 where
+  pub row : ℕ
+  pub value : Option ℕ
+  pub live : Option (Option ℕ)
+
+-- the live head's value in the answer, as 000's
+abbrev pub liveOf : ReadAnswer → Option (Option ℕ)
+liveOf None = none
+liveOf Empty = some none
+liveOf (Key k) = some (some k)
+liveOf (ReadAnswer.Refused k x) = none
+
+-- one of our reports, with the call's row and the live head's value of its answer, as 000's
+abbrev pub reclaimedOf : ℕ → ReadAnswer → List ℕ → Reclaimed
+reclaimedOf row live q = record { row = row; value = cond (nonzero (getD q 1 0)) (some (getD q 2 0)) none; live = liveOf live }
+
+-- `report_provenance`, as 000 has it
+abbrev pub ReclaimedProvenance : Image → List ℕ → List Reclaimed → ℕ → Type 0
+ReclaimedProvenance s removed reports row = All (λ (q : Reclaimed). (q .row ≡ row) × (q .live ≡ some (valueOf (s .rows (s .heads row)))) × ((p : ℕ) × In p removed × (stored s p ≡ true) × (valueOf (s .rows p) ≡ q .value))) reports
 
 module _ (see : Version → Bool) where
   -- `first_visible`, of a chain's cells

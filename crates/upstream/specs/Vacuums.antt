@@ -1,7 +1,7 @@
 -- 000, `vacuum_row_acquired`, clause by clause, of an accepted vacuum on any memory. The row's chain is h and then l; d are the eligible of
 -- l, in order, and k the others; fl is the free list before.
 use Prim.Native.Nat.{ℕ, _<_}
-use mathlib.Core.Bool.{Bool, false}
+use mathlib.Core.Bool.{Bool, true, false}
 use mathlib.Core.List.{List, [], _∷_, map, reverseAux}
 use mathlib.Core.Option.{some}
 use mathlib.Core.Path.{_≡_, refl, sym, ap, _∙_, subst}
@@ -12,8 +12,8 @@ use Rattle.rules.specs.declared.TxId.{TxId}
 use Rattle.rules.specs.declared.Version.{Version}
 use Rattle.rules.specs.declared.Answer.{Answer}
 use Rattle.rules.specs.Sizes.{Sizes, ROWS, CELLS, FREE}
-use Rattle.rules.specs.Lists.{first}
-use Rattle.rules.specs.Versions.{at, withNext, versionOf, cellAt, versionAt}
+use Rattle.rules.specs.Lists.{nonzero, first}
+use Rattle.rules.specs.Versions.{at, valueOf, withNext, versionOf, cellAt, versionAt}
 use Rattle.rules.specs.Memory.{Mem, sizeR, sizeN, headAt, withCells}
 use Rattle.rules.specs.Chain.{ends, Chain, chain}
 use Rattle.rules.specs.Snapshot.{horizon}
@@ -22,7 +22,7 @@ use Rattle.rules.specs.Vacuum.{relink, vacuumOut}
 use Rattle.rules.specs.Exactly.{In, All, NoneOf, holds-true}
 use Rattle.rules.specs.Terms.{Fitting, store-fits, CellOf, is-cell}
 use Rattle.rules.specs.Along.{Along, is-chain}
-use Rattle.rules.specs.Theory.Cases.{no-both}
+use Rattle.rules.specs.Theory.Cases.{byBool, no-both}
 use Rattle.rules.specs.Theory.CellLaws.{HasCell}
 use Rattle.rules.specs.Members.{Once, in-or-not, all-in, in-all}
 use Rattle.rules.specs.ChainOnce.{chain-passes-each-cell-once}
@@ -31,12 +31,13 @@ use Rattle.rules.specs.Relinked.{relink-length, relink-else}
 use Rattle.rules.specs.HandedOut.{FreeList, free-agree, give-all-in-front}
 use Rattle.rules.specs.VacuumRefuses.{Reclaimable, WholeChain, DeadOf, vacuumLines, ended-chain}
 use Rattle.rules.specs.OneOutcome.{KeptOf, vacuum-meets}
-use Rattle.upstream.specs.Images.{imageOf}
+use Rattle.upstream.specs.Images.{imageOf, stored}
 use Rattle.upstream.specs.Seen.{reachable}
-use Rattle.upstream.specs.RetentionTerms.{Eligible, DataSame, MetadataSame, MetadataSameBut, ReportProvenance, firstSeen, prefix, PrefixIneligible}
+use Rattle.upstream.specs.RetentionTerms.{Eligible, DataSame, MetadataSame, MetadataSameBut, ReportProvenance, Reclaimed, liveOf, reclaimedOf, ReclaimedProvenance, firstSeen, prefix, PrefixIneligible}
 use Rattle.upstream.specs.Reading.{reachable-is-the-chain}
 use Rattle.upstream.specs.Chains.{first-without, first-in, next-same-above}
 use Rattle.rules.specs.VacuumRemoves as W
+use Rattle.upstream.specs.Transactions as up
 
 pub same-but-next : (v w : Version) (y : ℕ) → w ≡ withNext v y → DataSame v w
 same-but-next v w y e =
@@ -51,6 +52,10 @@ same-but-next v w y e =
 
 pub same-data : (v w : Version) → w ≡ v → DataSame v w
 same-data v w e = same-but-next v w (v .next .0) e
+
+-- the live head's value, told by our answer, is 000's
+live-is : (v : Version) → liveOf (valueOf v) ≡ some (up.valueOf v)
+live-is v = byBool (nonzero (v .keyed)) (λ e. rw e) (λ e. rw e)
 
 -- members of a list turned onto another
 pub in-turned : (x : ℕ) (d l : List ℕ) → In x (reverseAux d l) ↔ (In x d ⊎ In x l)
@@ -207,6 +212,19 @@ module _ {z : Sizes} (m : Mem z) (row request room : ℕ) (accepted : NoneOf (va
       each : (e : List ℕ) → ((x : ℕ) → In x e → In x d) → All (λ (q : List ℕ). (p : ℕ) × In p d × (q ≡ p ∷ versionAt (m .cells) p .keyed ∷ versionAt (m .cells) p .key ∷ [])) (map (λ c. c ∷ versionAt (m .cells) c .keyed ∷ versionAt (m .cells) c .key ∷ []) e)
       each [] f = tt
       each (c ∷ e) f = ((c, f c (inl refl), refl), each e (λ x i. f x (inr i)))
+
+  -- vacuum_row_acquired.12 as 000 has it: each of our reports, with the call's row and the live head's value of its answer, is 000's report
+  pub vacuum-row-acquired-reports-as-upstream : ReclaimedProvenance (imageOf m) d (map (reclaimedOf row (valueOf (versionAt (m .cells) h))) (vacuumOut m row request room .front)) row
+  vacuum-row-acquired-reports-as-upstream =
+      let r : headAt m row ≡ h = whole .way .along .0 in
+      rw (W.vacuum-reports-each-in-chain-order m row request room accepted h l d k whole dead kept, r) (each d (λ x i. i))
+    where
+      each : (e : List ℕ) → ((x : ℕ) → In x e → In x d) → All (λ (q : Reclaimed). (q .row ≡ row) × (q .live ≡ some (up.valueOf (versionAt (m .cells) h))) × ((p : ℕ) × In p d × (stored (imageOf m) p ≡ true) × (up.valueOf (versionAt (m .cells) p) ≡ q .value))) (map (reclaimedOf row (valueOf (versionAt (m .cells) h))) (map (λ c. c ∷ versionAt (m .cells) c .keyed ∷ versionAt (m .cells) c .key ∷ []) e))
+      each [] f = tt
+      each (c ∷ e) f = (
+        (refl, live-is (versionAt (m .cells) h), (c, f c (inl refl), holds-true _ (is-cell (sizeN m) c) (all-in (CellOf (sizeN m)) (h ∷ l) (whole .way .cells) c (inr (dead-is c .0 (f c (inl refl)) .0))), refl)),
+        each e (λ x i. f x (inr i)),
+      )
 
   -- vacuum_row_acquired.11: as many removed as reported
   pub vacuum-row-acquired-counts-its-reports : length (vacuumOut m row request room .front) ≡ length d
