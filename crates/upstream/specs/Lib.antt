@@ -17,3 +17,6 @@ pub mod Validating
 -- slots and clock
 pub mod LifecycleTerms
 pub mod Lifecycle
+pub mod Frames
+-- not empty
+pub mod Examples
