@@ -13,13 +13,13 @@ use Rattle.rules.specs.declared.Answer.{Answer}
 use Rattle.rules.specs.declared.Version.{Version}
 use Rattle.rules.specs.Sizes.{Sizes, Roomy}
 use Rattle.rules.specs.Lists.{fold}
-use Rattle.rules.specs.Versions.{versionAt, versionOf, lockedFor}
+use Rattle.rules.specs.Versions.{versionAt, versionOf, lockedFor, newVersion, putCell}
 use Rattle.rules.specs.Slots.{emptied}
 use Rattle.rules.specs.Memory.{Mem, sizeR, sizeN, free, headAt, wordsAt, slotAt, withCells}
 use Rattle.rules.specs.Chain.{Chain}
 use Rattle.rules.specs.Outcome.{Outcome, refuse, slotTests, each}
 use Rattle.rules.specs.Begin.{begun, beginWords}
-use Rattle.rules.specs.Write.{writeOut}
+use Rattle.rules.specs.Write.{lockBase, prepared, writeOut}
 use Rattle.rules.specs.Commit.{commitOut, commitTests, publishAll}
 use Rattle.rules.specs.Abort.{abortOut, abortTests, news, giveBack, unlockBase}
 use Rattle.rules.specs.History.{Log, rowsIn, cellsIn}
@@ -28,7 +28,7 @@ use Rattle.rules.specs.Exactly.{NoneOf}
 use Rattle.rules.specs.Terms.{NoEntry}
 use Rattle.rules.specs.WriteRefuses.{writeLines}
 use Rattle.rules.specs.WritePrepares.{write-keeps-other-cells, write-locks-the-base}
-use Rattle.rules.specs.Demand3.{chained-cell-is-nowhere-else}
+use Rattle.rules.specs.HandedOut.{write-takes-the-first-free}
 use Rattle.rules.specs.Theory.Cases.{byEq}
 use Rattle.rules.specs.Theory.Counting.{cnt}
 use Rattle.rules.specs.Theory.Guard.{guardCase}
@@ -61,6 +61,10 @@ module _ {z : Sizes} (m : Mem z) (s id j : ℕ) (ne : j ≢ s) where
       getD-set-other (fold giveBack (news (slotAt m s .writes)) loosed .slots) s j (emptied z) [] ne ∙ ap (λ (ss : List (List ℕ)). getD ss j []) (slots-give-all (news (slotAt m s .writes)) loosed))
 
 -- ---- `initialize_row`
+
+-- `fresh_cell` is 01's new version with free link 0, `stored` a cell put with its version and link; `initialized` is both
+abbrev pub initialized : {z : Sizes} → Mem z → ℕ → Option ℕ → ℕ → ℕ → Mem z
+initialized m p v x next = withCells m (putCell (m .cells) p (newVersion v x next) 0)
 
 -- `permitted`: a cell may be initialized with this next. `exclusive` is read as free, `protected` as in a chain
 pub record Permitted {z : Sizes} (m : Mem z) (p next : ℕ) : Type 0 where
@@ -97,6 +101,11 @@ module _ {z : Sizes} (rm : Roomy z) (m : Mem z) (l : Log) (rc : Reachable m l) w
   module _ (s id row : ℕ) (v : Option ℕ) (accepted : NoneOf (writeLines m s id row)) (new : NoEntry (slotAt m s .writes) row) where
     abbrev after : Mem z
     after = writeOut m s id row v .after
+
+    -- the cells after are `initialized` of those before, the base locked: the cell taken has the value, the writer as xmin, next 0
+    pub initialize-row-ok-is-initialized : after .cells ≡ initialized (withCells m (lockBase (m .cells) (headAt m row) id)) (free m) v id 0 .cells
+    unfolding prepared
+    initialize-row-ok-is-initialized = ap (λ (o : Outcome z Answer ℕ). o .after .cells) (write-takes-the-first-free m s id row v accepted new)
 
     not-taken : (r c : ℕ) → r < rowsIn l → times c (chainAt m r .cells) ≢ 0 → (c ≢ 0) × (c ≢ free m)
     not-taken r c inR nz =
