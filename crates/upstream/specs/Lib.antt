@@ -14,6 +14,7 @@ pub mod Reading
 pub mod Told
 pub mod Materialize
 pub mod Validating
+pub mod LockTest
 -- slots and clock
 pub mod LifecycleTerms
 pub mod Lifecycle
