@@ -111,3 +111,8 @@ full = run (replicate (base .slots) begin) (createOut lent 4 2 .after) .1
 pub part-at-a-refused-begin : (clock full ≡ 17) × (beginOut full .answer ≡ Answer.Refused 3 0) × (clock (beginOut full .after) ≡ 17)
 unfolding run step has keep first last fold least greatest from versionOf wordsOf cellAt putCell words threes slotOf push opened creatorVisible visible conflict chain look occupied vacant horizonOf guard each fits storeTests slotTests freshCells created createOut idsWith beginWords beginOut own answerAt recorded sightOf ownSight readRow readEnd readOut lockBase prepared headTests writeNow writeOut markBase commitTests publish commitOut
 part-at-a-refused-begin = (refl, refl, refl)
+
+-- transaction 3 began while 2 was open: its snapshot xmin is 2 at once, where upstream has 3 until a snapshot is taken
+pub part-at-the-first-xmin : (slotAt store 1 .id ≡ 3) × (slotAt store 1 .low ≡ 2)
+unfolding run step has keep first last fold least greatest from versionOf wordsOf cellAt putCell words threes slotOf push opened creatorVisible visible conflict chain look occupied vacant horizonOf guard each fits storeTests slotTests freshCells created createOut idsWith beginWords beginOut own answerAt recorded sightOf ownSight readRow readEnd readOut lockBase prepared headTests writeNow writeOut markBase commitTests publish commitOut
+part-at-the-first-xmin = (refl, refl)
