@@ -19,5 +19,24 @@ pub mod LockTest
 pub mod LifecycleTerms
 pub mod Lifecycle
 pub mod Frames
+-- publication
+pub mod Publication
+pub mod Publishes
+pub mod PreparedWrites
+-- vacuum
+pub mod RetentionTerms
+pub mod Chains
+pub mod Vacuums
+pub mod Protected
+pub mod Safe
+pub mod SharedTails
+pub mod Horizons
+-- the story of 001
+pub mod Story
+pub mod Native
+pub mod NativeVacuum
+pub mod NativeRun
+pub mod NativeReaders
+pub mod NativeMet
 -- not empty
 pub mod Examples

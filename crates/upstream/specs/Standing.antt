@@ -57,7 +57,7 @@ use Rattle.upstream.specs.BornCalls.{create-born, begin-born, read-born,
 
 -- ---- every call, and every run
 
-abbrev Alive : {z : Sizes} → Mem z → Log → Type 0
+abbrev pub Alive : {z : Sizes} → Mem z → Log → Type 0
 Alive m l = Born (rowsIn l) (suc (cellsIn l)) (viewOf m)
 
 module _ {z : Sizes} (m : Mem z) (l : Log) where
@@ -125,7 +125,7 @@ start-alive {z} rm m n r = guardCase (λ (o : Outcome z Answer ℕ). o .answer �
     (λ k x q. let y : _≡_ {A = ℕ} 0 1 = cc in absurd (omega arith))
     (λ p q. (create-starts rm m n r (not-false _ (p .0)), create-born m n r (not-false _ (p .0))))
 
-reachable-alive : {z : Sizes} → Roomy z → (m : Mem z) (l : Log) → Reachable m l → Alive m l
+pub reachable-alive : {z : Sizes} → Roomy z → (m : Mem z) (l : Log) → Reachable m l → Alive m l
 reachable-alive rm m l rc =
     let k = start-alive rm (rc .lent) (rc .n) (rc .r) (rc .accepted) in
     let b = run-alive (rc .calls) (createOut (rc .lent) (rc .n) (rc .r) .after) (made (rc .n) (rc .r) ∷ []) (k .0) (k .1) in

@@ -1,0 +1,48 @@
+-- Gap 5: 000's `image_valid` lets two rows share a tail, so that freeing for one row can hurt the other. No reachable store has one.
+use Prim.Native.Nat.{ℕ, _<_}
+use mathlib.Core.List.{[], _∷_}
+use mathlib.Core.Path.{_≡_, refl}
+use mathlib.Core.Logic.{_≢_, inl, inr}
+use native.Mathlib.Omega.{arith}
+use lib.ListN.{replicate}
+use Rattle.rules.specs.declared.Answer.the-variants.{Vacuumed}
+use Rattle.rules.specs.declared.ReadAnswer.the-variants.{Key}
+use Rattle.rules.specs.Sizes.{Sizes, Roomy, base, lastId}
+use Rattle.rules.specs.Lists.{keep, first, fold, least}
+use Rattle.rules.specs.Versions.{version, emptyVersion, wordsOf, versionOf, cellAt, versionAt, putCell}
+use Rattle.rules.specs.Memory.{Mem, mem}
+use Rattle.rules.specs.Chain.{chain}
+use Rattle.rules.specs.Snapshot.{occupied, horizonOf}
+use Rattle.rules.specs.Outcome.{guard, fits, storeTests}
+use Rattle.rules.specs.Abort.{giveBack}
+use Rattle.rules.specs.Vacuum.{reclaimable, relink, reports, swept, vacuumNow, vacuumOut}
+use Rattle.rules.specs.History.{Log, rowsIn}
+use Rattle.rules.specs.Reachable.{Reachable, chainAt}
+use Rattle.rules.specs.Exactly.{In}
+use Rattle.rules.specs.Demand3.{chained-cell-is-nowhere-else, sizes-are-the-creations}
+use Rattle.upstream.specs.Images.{Image, ImageValid}
+use Rattle.upstream.specs.Safe.{in-times}
+
+-- rows 0 and 1 have heads of their own, 2 and 3, over one tail, 1, which has been superseded
+abbrev pub sharing : Mem base
+sharing =
+    mem (2 ∷ 3 ∷ 9 ∷ 0 ∷ []) (2 ∷ 3 ∷ []) (wordsOf (version 1 2 0 1 60 0 0) 0 ∷ wordsOf (version 2 0 1 1 70 0 0) 0 ∷ wordsOf (version 3 0 1 1 80 0 0) 0 ∷ [])
+    (replicate (base .slots) (replicate (base .width) 0))
+
+-- an image of that kind is valid in 000's sense: two rows whose heads link to one cell
+abbrev pub twoRows : Image
+twoRows = record { heads = λ r. 1; rows = λ c. version 1 0 0 1 60 0 0; cells = 1; capacity = 2 }
+
+pub valid-image-may-share : ImageValid twoRows
+valid-image-may-share = record { heads = λ r b. inr refl; links = λ p e. inl refl; rank = λ p. 0; falls = λ p e n. absurd (n refl) }
+
+-- and a vacuum of row 0 takes the tail away from row 1: the head of row 1 still points at the cell, which is cleared and free
+pub sharing-hurts : (vacuumOut sharing 0 lastId 1 .answer ≡ Vacuumed 1 (Key 70)) × (versionAt (vacuumOut sharing 0 lastId 1 .after .cells) 3 .next .0 ≡ 1) × (versionAt (vacuumOut sharing 0 lastId 1 .after .cells) 1 ≡ emptyVersion)
+unfolding keep first fold least versionOf wordsOf cellAt putCell chain occupied horizonOf guard fits storeTests giveBack reclaimable relink reports swept vacuumNow vacuumOut
+sharing-hurts = (refl, refl, refl)
+
+-- in a reachable store no cell is in the chains of two rows
+pub no-tail-is-shared : {z : Sizes} (rm : Roomy z) (m : Mem z) (l : Log) → Reachable m l → (a b c : ℕ) → a < rowsIn l → b < rowsIn l → a ≢ b → In c (chainAt m a .cells) → In c (chainAt m b .cells) → ⊥
+no-tail-is-shared rm m l rc a b c ia ib n i j =
+    let R = sizes-are-the-creations rm m l rc .0 in
+    in-times c (chainAt m b .cells) j (chained-cell-is-nowhere-else rm m l rc a c ia (in-times c (chainAt m a .cells) i) .others b (omega (arith, R)) (λ e. n (omega (arith, e))))
