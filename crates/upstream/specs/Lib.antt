@@ -14,9 +14,11 @@ pub mod Reading
 pub mod Told
 pub mod Materialize
 pub mod Validating
+pub mod LockTest
 -- slots and clock
 pub mod LifecycleTerms
 pub mod Lifecycle
+pub mod Frames
 -- publication
 pub mod Publication
 pub mod Publishes
@@ -36,3 +38,5 @@ pub mod NativeVacuum
 pub mod NativeRun
 pub mod NativeReaders
 pub mod NativeMet
+-- not empty
+pub mod Examples

@@ -16,10 +16,12 @@ use Rattle.rules.specs.declared.Answer.the-variants.{Done, Begun}
 use Rattle.rules.specs.Sizes.{Sizes, Roomy, lastId, ID, LOW, CLOCK}
 use Rattle.rules.specs.Lists.{least, greatest}
 use Rattle.rules.specs.Slots.{Slot, slotOf, emptied}
-use Rattle.rules.specs.Memory.{Mem, clock, wordsAt, slotAt, withSlot, withMeta}
+use Rattle.rules.specs.Memory.{Mem, sizeN, clock, wordsAt, slotAt, withSlot, withMeta}
 use Rattle.rules.specs.Snapshot.{occupied, snapLow, snapTop, horizonOf, horizon}
 use Rattle.rules.specs.Horizon.{least-at-most}
 use Rattle.rules.specs.Begin.{idsWith, beginWords, begun}
+use Rattle.rules.specs.Outcome.{Outcome, refuse, slotTests, each}
+use Rattle.rules.specs.Abort.{abortOut, abortTests}
 use Rattle.rules.specs.History.{Log, whoIn, rowsIn, cellsIn}
 use Rattle.rules.specs.Reachable.{Reachable}
 use Rattle.rules.specs.Demand3.{id-is-below-the-clock, id-is-in-one-slot, slot-has-the-open-id}
@@ -27,7 +29,10 @@ use Rattle.rules.specs.Theory.Cases.{byEq, byBool}
 use Rattle.rules.specs.Theory.SlotLaws.{newSlot, slot-opened}
 use Rattle.rules.specs.Theory.Bridge.{few-ids}
 use Rattle.rules.specs.Theory.SlotSteps.{top-is}
-use Rattle.rules.specs.Theory.Steps.{Sound}
+use Rattle.rules.specs.Theory.Inv.{all-map}
+use Rattle.rules.specs.Theory.Guard.{guard-passed, passed-join, passed-each}
+use Rattle.rules.specs.Theory.Never.{open-slot, slot-passed, all-entered}
+use Rattle.rules.specs.Theory.Steps.{Sound, histOf}
 use Rattle.rules.specs.Theory.ReadLaw.{reachable-sound}
 use Rattle.upstream.specs.LifecycleTerms.{idOf, lowOf, lowered, raised, active, minimumActive, maximumActive, minimumRetention, topOf, Coherent, WellFormed}
 use Rattle.upstream.specs.Standing.{open-snapshot-is-well-formed, empty-slot-has-xmin-0}
@@ -214,7 +219,8 @@ module _ {z : Sizes} (rm : Roomy z) (m : Mem z) (l : Log) (rc : Reachable m l) w
     unfolding idsWith
     few = few-ids (z .slots) ID (set (m .slots) s (set (wordsAt m s) ID (clock m)))
 
-    begun-slot : slotAt (begun m s) s ≡ newSlot (clock m) (snapLow (clock m + 1) (idsWith m s)) (snapTop (clock m + 1) (idsWith m s)) (idsWith m s)
+    -- our begin's slot: the id, the snapshot, no writes, no records
+    pub begun-slot : slotAt (begun m s) s ≡ newSlot (clock m) (snapLow (clock m + 1) (idsWith m s)) (snapTop (clock m + 1) (idsWith m s)) (idsWith m s)
     unfolding beginWords
     begun-slot =
         ap (slotOf z) (getD-set-same (m .slots) s (beginWords m s) [] within)
@@ -233,3 +239,14 @@ module _ {z : Sizes} (rm : Roomy z) (m : Mem z) (l : Log) (rc : Reachable m l) w
           xmax-is = top-is (clock m) (idsWith m s) (rw (ids, ← g) top) ∙ sym (top-one (clock m) (maximumActive (registered s) (z .slots)) top);
           xmin-is = ap (least (clock m + 1)) ids ∙ sym (minimum-active-is-least (registered s) (z .slots) (clock m + 1) le);
         })
+
+  -- ---- `end_transaction`
+
+  -- an open transaction can always be ended: abort is done, with no other test than the slot's and the owner's
+  pub end-transaction-by-abort-is-ok : (s : ℕ) → whoIn l s ≢ 0 → abortOut m s (whoIn l s) .answer ≡ Done
+  unfolding abortOut
+  end-transaction-by-abort-is-ok s op =
+      let o = open-slot (rowsIn l) (cellsIn l) m (histOf l) so s (whoIn l s) op refl in
+      let entered = all-entered (rowsIn l) (cellsIn l) m (histOf l) so s (whoIn l s) o in
+      let pass = passed-each (abortTests m) (slotAt m s .writes) (all-map _ _ (slotAt m s .writes) (λ w k. (le-ltb (sizeN m) (w .base) (k .base-in), (k .new-in, tt))) entered) in
+      ap (λ (x : Outcome z Answer ℕ). x .answer) (guard-passed (refuse m) (slotTests m s (whoIn l s) ++ each (abortTests m) (slotAt m s .writes)) _ (passed-join (slotTests m s (whoIn l s)) (each (abortTests m) (slotAt m s .writes)) (slot-passed (rowsIn l) (cellsIn l) m (histOf l) so s (whoIn l s) o) pass))

@@ -20,7 +20,8 @@ use Rattle.rules.specs.Slots.{Slot, Write, Rec, addRecs, slotOf}
 use Rattle.rules.specs.Memory.{Mem, sizeR, wordsAt, slotAt, withSlot}
 use Rattle.rules.specs.Outcome.{Outcome, out, Test, refuse, guard, slotTests, each}
 use Rattle.rules.specs.Lookup.{isKey, Found, stopped, got, find, lookupEnd, lookupOut, lookupAllOut, candidateTests}
-use Rattle.rules.specs.History.{Log, Val, whoIn, rowsIn, cellsIn, ownIn, viewIn, valueIn, keyAnswer, answerOf}
+use Rattle.rules.specs.Run.{lookup, lookupAll, run, step}
+use Rattle.rules.specs.History.{Log, logOf, logged, Val, whoIn, rowsIn, cellsIn, ownIn, viewIn, valueIn, keyAnswer, answerOf}
 use Rattle.rules.specs.Reachable.{Reachable, All}
 use Rattle.rules.specs.Listing.{Comes, its-list, its-trouble, rowsOf, hit, isNone, trouble, troubleValue}
 use Rattle.rules.specs.Demand3 as demand
@@ -28,6 +29,7 @@ use Rattle.rules.specs.Theory.Cases.{byEq, byBool, and-true, no-both}
 use Rattle.rules.specs.Theory.SlotLaws.{withRecs, slot-recs, recs-length}
 use Rattle.rules.specs.Theory.View.{viewOf, get-slots}
 use Rattle.rules.specs.Theory.Effects.{slotV}
+use Rattle.rules.specs.Theory.Inv.{all-map}
 use Rattle.rules.specs.Theory.Guard.{guardCase, passed-split}
 use Rattle.rules.specs.Theory.Good.{Owner, owner}
 use Rattle.rules.specs.Theory.Never.{open-slot}
@@ -35,10 +37,11 @@ use Rattle.rules.specs.Theory.ReadCall.{recs-count}
 use Rattle.rules.specs.Theory.LookupCall.{Fine, found-fine, rows-below, all-rows-below}
 use Rattle.rules.specs.Theory.Steps.{Sound, histOf}
 use Rattle.rules.specs.Theory.ReadLaw.{reachable-sound}
-use Rattle.upstream.specs.Images.{imageOf}
+use Rattle.upstream.specs.Images.{Image, imageOf, snapshot}
+use Rattle.upstream.specs.Seen.{firstVisible}
 use Rattle.upstream.specs.Transactions.{selectedValue}
-use Rattle.upstream.specs.ReadTerms.{ViewSame, Extends, MatchesRow}
-use Rattle.upstream.specs.Told.{toldBy, selected-value-is-history}
+use Rattle.upstream.specs.ReadTerms.{ViewSame, Extends, Observed, equalsKey, MatchesRow}
+use Rattle.upstream.specs.Told.{toldBy, selected-value-is-history, every-record-is-observed}
 
 -- an answer that is no refusal
 abbrev pub Listed! : Answer → Type 0
@@ -73,6 +76,12 @@ key-value : (key : ℕ) (o : Option ℕ) → (isKey key (keyAnswer o) ≡ true) 
 unfolding isKey
 key-value key none = (λ e. absurd (no-both _ e refl), λ e. let y : _≡_ {A = ℕ} 0 1 = cc in absurd (omega arith))
 key-value key (some k) = (λ e. let q = eqb-true key k e in rw (← q), λ e. let q : key ≡ k = cc in eq-eqb key k q)
+
+-- `EqualsKey::evaluate` is our test of an answer
+pub equals-key-evaluate-is-our-test : (key : ℕ) (o : Option ℕ) → isKey key (keyAnswer o) ≡ equalsKey key o
+unfolding isKey
+equals-key-evaluate-is-our-test key none = refl
+equals-key-evaluate-is-our-test key (some k) = byEq key k (λ e. rw (eq-eqb key k e, eq-eqb k key (sym e))) (λ e. rw (ne-eqb key k e, ne-eqb k key (λ q. e (sym q))))
 
 key-told : (key : ℕ) (v : Option Val) → (isKey key (answerOf v) ≡ true) ↔ (toldBy v ≡ some (some key))
 unfolding isKey
@@ -138,9 +147,10 @@ module _ {z : Sizes} (rm : Roomy z) (m : Mem z) (l : Log) (rc : Reachable m l) (
   pub record Left (x : Outcome z Answer ℕ) : Type 0 where
     pub same : ViewSame t (slotAt (x .after) s)
     pub recs : Extends (t .recs) (slotAt (x .after) s .recs)
+    pub image : imageOf (x .after) ≡ imageOf m
 
   refused-left : (k x : ℕ) → Left (refuse m k x)
-  refused-left k x = record { same = record { id = refl; low = refl; top = refl; active = refl; writes = refl }; recs = record { added = []; is = sym (append-nil (t .recs)) } }
+  refused-left k x = record { same = record { id = refl; low = refl; top = refl; active = refl; writes = refl }; recs = record { added = []; is = sym (append-nil (t .recs)) }; image = refl }
 
   module _ (o : Owner m s (whoIn l s)) where
     added-left : (new : List Rec) → length (t .recs) + length new ≤ z .reads → (front : List ℕ) (a : Answer) → Left (out a front (withSlot m s (addRecs z new (wordsAt m s))))
@@ -152,6 +162,7 @@ module _ {z : Sizes} (rm : Roomy z) (m : Mem z) (l : Log) (rc : Reachable m l) (
         record {
           same = rw e (record { id = refl; low = refl; top = refl; active = refl; writes = refl });
           recs = record { added = new; is = ap (λ (x : Slot). x .recs) e };
+          image = refl;
         }
 
     found-left : (late : List Test) (f : Found) → Fine (rowsIn l) (cellsIn l) m (histOf l) so s (whoIn l s) o key room f → Left (lookupEnd m s late f)
@@ -171,3 +182,24 @@ module _ {z : Sizes} (rm : Roomy z) (m : Mem z) (l : Log) (rc : Reachable m l) (
   unfolding lookupAllOut
   materialize-all-keeps-the-view-and-extends-the-records = guardCase Left (refuse m) (slotTests m s (whoIn l s)) _ refused-left
       (λ p. let o = owner m s (whoIn l s) p in found-left o _ _ (found-fine (rowsIn l) (cellsIn l) m (histOf l) so s (whoIn l s) o key room _ (all-rows-below (rowsIn l) (cellsIn l) m (histOf l) so)))
+
+  -- every record after is an `observed_record` of the image before
+  observed-after : (x : Outcome z Answer ℕ) → Left x → All (Observed (imageOf (x .after)) (slotAt (x .after) s)) (slotAt (x .after) s .recs) → All (Observed (imageOf m) t) (slotAt (x .after) s .recs)
+  observed-after x k a = all-map _ _ (slotAt (x .after) s .recs)
+      (λ q o.
+      let v : snapshot (slotAt (x .after) s) ≡ snapshot t = λ i. record { txid = sym (k .same .id) i; xmin = sym (k .same .low) i; xmax = sym (k .same .top) i; active = sym (k .same .active) i } in
+      let o′ : Observed (imageOf m) (slotAt (x .after) s) q = subst (λ (s′ : Image). Observed s′ (slotAt (x .after) s) q) (k .image) o in
+      record { row = o′ .row; cell = o′ .cell; first = ap (firstVisible (imageOf m) (imageOf m .heads (q .row))) (sym v) ∙ o′ .first; xmin = o′ .xmin })
+      a
+
+  pub materialize-records-have-provenance : (cands : List ℕ) → All (Observed (imageOf m) t) (slotAt (lookupOut m s (whoIn l s) key cands room .after) s .recs)
+  unfolding run step logOf logged
+  materialize-records-have-provenance cands =
+      observed-after (lookupOut m s (whoIn l s) key cands room) (materialize-keeps-the-view-and-extends-the-records cands)
+      (every-record-is-observed rm (lookupOut m s (whoIn l s) key cands room .after) l (demand.calls-lead-to-reachable-stores m l rc (lookup s (whoIn l s) key cands room ∷ [])) s op)
+
+  pub materialize-all-records-have-provenance : All (Observed (imageOf m) t) (slotAt (lookupAllOut m s (whoIn l s) key room .after) s .recs)
+  unfolding run step logOf logged
+  materialize-all-records-have-provenance =
+      observed-after (lookupAllOut m s (whoIn l s) key room) materialize-all-keeps-the-view-and-extends-the-records
+      (every-record-is-observed rm (lookupAllOut m s (whoIn l s) key room .after) l (demand.calls-lead-to-reachable-stores m l rc (lookupAll s (whoIn l s) key room ∷ [])) s op)

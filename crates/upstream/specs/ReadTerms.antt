@@ -63,6 +63,11 @@ someConflict s t (q ∷ l) = readConflict (s .rows (q .cell)) q t || someConflic
 abbrev pub readsConflict : Image → Slot → Bool
 readsConflict s t = someConflict s t (t .recs)
 
+-- `EqualsKey::evaluate`: there is a key and it equals the sought one
+abbrev pub equalsKey : ℕ → Option ℕ → Bool
+equalsKey key none = false
+equalsKey key (some k) = eqb k key
+
 -- `matches_row`, for the predicate "equals this key": the row is in range and its selected value is the key
 pub record MatchesRow (s : Image) (t : Slot) (key r : ℕ) : Type 0 where
   pub row : r < s .capacity

@@ -8,7 +8,7 @@ use mathlib.Core.Option.{Option, none, some}
 use mathlib.Core.Path.{_≡_, refl, sym, ap, _∙_, subst}
 use native.Mathlib.Omega.{arith}
 use lib.Dec.{eqb, leb, ltb}
-use lib.ListN.{getD, set, take, length}
+use lib.ListN.{getD, set, take, length, length-append}
 use lib.Seq.{getD-set-same}
 use borrow.Author.Tests.{eq-eqb, ne-eqb, le-leb, lt-leb, le-ltb, lt-ltb, ltb-true, ltb-false, leb-false, leb-true, not-true, not-false, eqb-false}
 use Rattle.rules.specs.declared.Version.{Version}
@@ -27,7 +27,7 @@ use Rattle.rules.specs.Outcome.{Outcome, refuseRead, slotTests, rowTest, isCell
 use Rattle.rules.specs.Read.{own, answerAt, recorded, Sight, blocked, sees, sightOf, ownSight, readRow, readAt, readEnd, readOut}
 use Rattle.rules.specs.History.{Log, whoIn, rowsIn, cellsIn}
 use Rattle.rules.specs.Reachable.{Reachable, All, In, chainAt, walkedAt, seesAt, times}
-use Rattle.rules.specs.Theory.Cases.{byEq, byBool, and-true, no-both}
+use Rattle.rules.specs.Theory.Cases.{byEq, byBool, and-true, or-true, no-both}
 use Rattle.rules.specs.Theory.SlotLaws.{withRecs, slot-recs, recs-length}
 use Rattle.rules.specs.Theory.View.{viewOf}
 use Rattle.rules.specs.Theory.Counting.{cnt}
@@ -122,6 +122,33 @@ latest-pending-is-last-write (w ∷ l) r = join (own l r) (lastWrite l r) (lates
     join : (o : Option Write) (p : Option ℕ) → newOf o ≡ p → newOf (orElse o (cond (eqb (w .row) r) (some w) none)) ≡ orElse p (cond (eqb (w .row) r) (some (w .new)) none)
     join none p e = rw (← e) (byBool (eqb (w .row) r) (λ q. rw q) (λ q. rw q))
     join (some x) p e = rw (← e)
+
+-- ---- `record_read`, for any records
+
+module _ (recs : List Rec) (row c x : ℕ) where
+  recorded-last : (old : List Rec) → recorded c (old ++ rec row c x ∷ []) ≡ true
+  unfolding recorded
+  recorded-last [] = rw (eq-eqb c c refl)
+  recorded-last (q ∷ old) = rw (recorded-last old) (or-true (eqb c (q .cell)))
+
+  -- some record after has the cell; at most one record is added, at the end
+  pub record-read-has-the-cell : recorded c (recording recs row c x) ≡ true
+  record-read-has-the-cell = byBool (recorded c recs) (λ e. rw e e) (λ e. rw e (recorded-last recs))
+
+  pub record-read-extends : Extends recs (recording recs row c x)
+  record-read-extends = byBool (recorded c recs) (λ e. rw e (record { added = []; is = sym (append-nil recs) })) (λ e. rw e (record { added = rec row c x ∷ []; is = refl }))
+
+  pub record-read-adds-at-most-one : length (recording recs row c x) ≤ length recs + 1
+  record-read-adds-at-most-one = byBool (recorded c recs) (λ e. rw e (omega arith)) (λ e. rw (e, length-append recs (rec row c x ∷ [])) (omega arith))
+
+-- every record of before is among those after
+pub extended-contains : (before after : List Rec) → Extends before after → (q : Rec) → In q before → In q after
+extended-contains before after e q i = subst (In q) (sym (e .is)) (front-in before (e .added) i)
+  where
+    front-in : (old new : List Rec) → In q old → In q (old ++ new)
+    front-in [] new i = absurd i
+    front-in (x ∷ old) new (inl y) = inl y
+    front-in (x ∷ old) new (inr y) = inr (front-in old new y)
 
 -- ---- an open reader of a reachable store, a row in range
 
@@ -351,6 +378,14 @@ module _ {z : Sizes} (rm : Roomy z) (m : Mem z) (l : Log) (rc : Reachable m l) (
       go none (some c) e = byBool (recorded c (t .recs))
           (λ q. record { added = []; is = (rw q at e) ∙ sym (append-nil (t .recs)) })
           (λ q. record { added = rec row c (f c .xmin .0) ∷ []; is = rw q at e })
+
+  pub read-ok-adds-at-most-one-record : Accepted (reads .answer) → length (slotAt (reads .after) s .recs) ≤ length (t .recs) + 1
+  read-ok-adds-at-most-one-record a = go (lastWrite (t .writes) row) firstSeen (read-ok a .recs)
+    where
+      go : (w v : Option ℕ) → slotAt (reads .after) s .recs ≡ recordsAfter (imageOf m) t row w v → length (slotAt (reads .after) s .recs) ≤ length (t .recs) + 1
+      go (some p) v e = rw e (omega arith)
+      go none none e = rw e (omega arith)
+      go none (some c) e = rw e (record-read-adds-at-most-one (t .recs) row c (f c .xmin .0))
 
   in-append : (q x : Rec) (old : List Rec) → In q (old ++ x ∷ []) → In q old ⊎ (q ≡ x)
   in-append q x [] (inl e) = inr e
