@@ -1,16 +1,16 @@
 -- Where 000's visibility and 01's agree, and the smallest examples where they part. 01 looks at no snapshot xmin, holds id 0 for nobody,
 -- and does not see an own version that was superseded by a visible one.
 use Prim.Native.Nat.{ℕ, _<_, _≤_}
-use mathlib.Core.Bool.{Bool, true, false, not, _&&_, _||_}
+use mathlib.Core.Bool.{true, false, not, _&&_, _||_}
 use mathlib.Core.List.{List, [], _∷_}
 use mathlib.Core.Logic.{_≢_}
-use mathlib.Core.Path.{_≡_, refl, sym, _∙_}
+use mathlib.Core.Path.{_≡_, refl}
 use native.Mathlib.Omega.{arith}
-use lib.Dec.{eqb, ltb, leb}
+use lib.Dec.{eqb, leb}
 use borrow.Author.Tests.{eq-eqb, ne-eqb, lt-ltb, le-ltb, le-leb, lt-leb}
 use Rattle.rules.specs.declared.Version.{Version}
 use Rattle.rules.specs.Lists.{nonzero, has}
-use Rattle.rules.specs.Versions.{version, tx}
+use Rattle.rules.specs.Versions.{version}
 use Rattle.rules.specs.Slots.{Slot}
 use Rattle.rules.specs.Reachable.{All}
 use Rattle.rules.specs.Theory.Cases.{byBool, byEq, byLe}
