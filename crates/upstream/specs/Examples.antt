@@ -13,7 +13,7 @@ use Rattle.rules.specs.declared.ReadAnswer.{ReadAnswer}
 use Rattle.rules.specs.declared.ReadAnswer.the-variants.{Key}
 use Rattle.rules.specs.Sizes.{base, lastId}
 use Rattle.rules.specs.Lists.{last, fold, has, keep, first, least, greatest, from}
-use Rattle.rules.specs.Versions.{at, tx, versionOf, wordsOf, cellAt, putCell, versionAt, lockedByOther}
+use Rattle.rules.specs.Versions.{at, tx, versionOf, wordsOf, cellAt, putCell, versionAt, version, lockedFor, lockedByOther}
 use Rattle.rules.specs.Slots.{words, threes, slotOf, push, opened, rec}
 use Rattle.rules.specs.Slots as S
 use Rattle.rules.specs.Memory.{Mem, mem, clock, free, slotAt}
@@ -115,3 +115,8 @@ part-at-a-refused-begin = (refl, refl, refl)
 pub part-at-the-first-xmin : (slotAt store 1 .id ≡ 3) × (slotAt store 1 .low ≡ 2)
 unfolding run step has keep first last fold least greatest from versionOf wordsOf cellAt putCell words threes slotOf push opened creatorVisible visible conflict chain look occupied vacant horizonOf guard each fits storeTests slotTests freshCells created createOut idsWith beginWords beginOut own answerAt recorded sightOf ownSight readRow readEnd readOut lockBase prepared headTests writeNow writeOut markBase commitTests publish commitOut
 part-at-the-first-xmin = (refl, refl)
+
+-- transaction 3 has written row 0: its version is locked for 3, all else of it is as it was
+pub part-at-the-base's-lock : versionAt (store .cells) 1 ≡ lockedFor (version 1 0 0 1 70 0 0) 3
+unfolding run step has keep first last fold least greatest from versionOf wordsOf cellAt putCell words threes slotOf push opened creatorVisible visible conflict chain look occupied vacant horizonOf guard each fits storeTests slotTests freshCells created createOut idsWith beginWords beginOut own answerAt recorded sightOf ownSight readRow readEnd readOut lockBase prepared headTests writeNow writeOut markBase commitTests publish commitOut
+part-at-the-base's-lock = refl
