@@ -1,27 +1,21 @@
 -- What upstream's terms ask of a store beyond demand 3, over views: every version in a chain has a creator, no open transaction's id stands
 -- in a chain as xmin, and a cell that is in no chain links to nothing. It is kept by each effect of a call.
-use Prim.Native.Nat.{ℕ, _<_, _≤_, _+_, suc}
-use mathlib.Core.Bool.{Bool, true, false, not}
-use mathlib.Core.List.{List, [], _∷_, _++_}
+use Prim.Native.Nat.{ℕ, _<_, _≤_}
+use mathlib.Core.List.{List, [], _∷_}
 use mathlib.Core.Logic.{_≢_, _⊎_, inl, inr, ⊎-elim}
-use mathlib.Core.Option.{Option}
 use mathlib.Core.Path.{_≡_, refl, sym, ap, _∙_, subst}
 use native.Mathlib.Omega.{arith}
-use lib.ListN.{getD, set, length}
-use lib.Seq.{getD-set-same, getD-set-other}
-use lib.Dec.{eqb}
+use lib.ListN.{getD}
 use borrow.Author.Tests.{eq-eqb, ne-eqb}
 use Rattle.rules.specs.declared.Version.{Version}
 use Rattle.rules.specs.Lists.{fold}
-use Rattle.rules.specs.Versions.{version, withNext, withXmax, withLock, emptyVersion, keyedOf, keyOf}
-use Rattle.rules.specs.Slots.{Slot, Write, write}
-use Rattle.rules.specs.Abort.{news}
+use Rattle.rules.specs.Versions.{withXmax, withLock, emptyVersion}
+use Rattle.rules.specs.Slots.{Slot, Write}
 use Rattle.rules.specs.Reachable.{All}
 use Rattle.rules.specs.Theory.Cases.{byEq}
-use Rattle.rules.specs.Theory.SlotLaws.{withWrite}
-use Rattle.rules.specs.Theory.View.{View, emptySlot, upd, upd-same, upd-other}
-use Rattle.rules.specs.Theory.Effects.{slotV, putSlot, publishV, publishAllV, giveV, giveAllV, markV, lockV, prepareV, relinkV}
-use Rattle.rules.specs.Theory.Counting.{cnt, cnt-head, cnt-tail, cnt-same, cnt-other, cnt-append}
+use Rattle.rules.specs.Theory.View.{View, upd, upd-same, upd-other}
+use Rattle.rules.specs.Theory.Effects.{slotV, publishV, publishAllV, giveV, giveAllV, markV}
+use Rattle.rules.specs.Theory.Counting.{cnt, cnt-head, cnt-tail, cnt-other}
 use Rattle.rules.specs.Theory.Inv.{nexts, Spelled, inSlot, Inv, Ghost, Hist}
 use Rattle.rules.specs.Theory.Places.{chain-cell, spelled-first}
 use Rattle.rules.specs.Theory.Publish.{part-off, part-on, part-same, ofNext}

@@ -1,6 +1,6 @@
 -- Every call keeps what Born.antt says, refused calls included.
 use Prim.Native.Nat.{ℕ, _<_, _≤_, _+_, zero, suc}
-use mathlib.Core.Bool.{Bool, true, false, not}
+use mathlib.Core.Bool.{Bool, true, not}
 use mathlib.Core.List.{List, [], _∷_, _++_, map}
 use mathlib.Core.Logic.{_≢_}
 use mathlib.Core.Option.{Option, none, some}
@@ -10,23 +10,23 @@ use native.Mathlib.Nat.{le-of-suc-le-suc}
 use lib.Dec.{eqb, leb, ltb}
 use lib.ListN.{getD, set, length, length-append, take}
 use lib.Seq.{getD-set-same, getD-set-other}
-use borrow.Author.Tests.{leb-false, ltb-true, ltb-false, eqb-false, not-false, eq-eqb, ne-eqb}
+use borrow.Author.Tests.{leb-false, ltb-true, ltb-false, eqb-false, eq-eqb, ne-eqb}
 use Rattle.rules.specs.declared.Answer.{Answer}
 use Rattle.rules.specs.declared.ReadAnswer.{ReadAnswer}
 use Rattle.rules.specs.declared.Version.{Version}
 use Rattle.rules.specs.Sizes.{Sizes, lastId, READS, WRITES}
-use Rattle.rules.specs.Numbers.{badSize, clockSpent, noFreeSlot, damaged}
+use Rattle.rules.specs.Numbers.{clockSpent, noFreeSlot, damaged}
 use Rattle.rules.specs.Lists.{fold, keep, least}
 use Rattle.rules.specs.Versions.{versionAt, version, withNext, withValue, emptyVersion, keyedOf, keyOf}
 use Rattle.rules.specs.Slots.{Slot, Write, Rec, addRecs, emptied, slotOf}
 use Rattle.rules.specs.Slots as S
 use Rattle.rules.specs.Memory.{Mem, sizeR, sizeN, clock, free, headAt, wordsAt, slotAt, withSlot, withCells}
-use Rattle.rules.specs.Chain.{ends, Chain}
+use Rattle.rules.specs.Chain.{ends}
 use Rattle.rules.specs.Snapshot.{vacant, horizon, snapLow, snapTop}
 use Rattle.rules.specs.Outcome.{Outcome, Test, test, refuse, refuseRead, slotTests, storeTests, rowTest, each, isCell, fits}
-use Rattle.rules.specs.Create.{created, createOut}
+use Rattle.rules.specs.Create.{created}
 use Rattle.rules.specs.Begin.{begun, beginOut}
-use Rattle.rules.specs.Read.{Sight, blocked, sees, readEnd, readOut, own, readAt}
+use Rattle.rules.specs.Read.{Sight, blocked, sees, readEnd, readOut, own}
 use Rattle.rules.specs.Write.{writeOut, writeNow, headTests, prepared, replaced}
 use Rattle.rules.specs.Commit.{commitOut, commitTests, publishAll}
 use Rattle.rules.specs.Abort.{abortOut, abortTests, news, unlockBase, giveBack}
@@ -40,10 +40,10 @@ use Rattle.rules.specs.Theory.SlotLaws.{newSlot, withRecs, withWrite, slot-empt
 use Rattle.rules.specs.Theory.CellLaws.{HasCell}
 use Rattle.rules.specs.Theory.View.{View, viewOf, emptySlot, get-slots, slotsOf, upd, upd-other}
 use Rattle.rules.specs.Theory.Effects.{slotV, putSlot, withVers, beginV, bornV, idsV, prepareV, publishAllV, publishV, giveAllV, lockV, unlockV, relinkV}
-use Rattle.rules.specs.Theory.Bridge.{view-begin, view-recs, view-prepared, view-replaced, view-close, view-publish-all, view-give-all, unlock-vers, relink-vers, AllCells, all-cells, BasesIn, AllIn}
-use Rattle.rules.specs.Theory.Counting.{cnt, cnt-append, cnt-same, cnt-other, cnt-head, cnt-tail, sum, sum-at}
+use Rattle.rules.specs.Theory.Bridge.{view-begin, view-recs, view-prepared, view-replaced, view-close, view-publish-all, view-give-all, unlock-vers, relink-vers, AllCells, all-cells, BasesIn}
+use Rattle.rules.specs.Theory.Counting.{cnt, cnt-append, cnt-same, cnt-other, cnt-head, cnt-tail, sum-at}
 use Rattle.rules.specs.Theory.Inv.{Hist, Inv, Ver, Spelled, nexts, inSlot, vers, verOf, Entries, ownFind}
-use Rattle.rules.specs.Theory.Places.{free-alone, spelled-first, inb-le, own-cell, chain-cell}
+use Rattle.rules.specs.Theory.Places.{spelled-first, inb-le, own-cell, chain-cell}
 use Rattle.rules.specs.Theory.SlotSteps.{open-in, ids-differ}
 use Rattle.rules.specs.Theory.Publish.{part-off, part-on, part-same, ofNext}
 use Rattle.rules.specs.Theory.CommitView.{Tested, no-entry}

@@ -1,21 +1,20 @@
 -- Upstream's premises can be met: one reachable store, with an open reader that has a record and an open writer with a prepared cell, that
 -- meets them. And the smallest examples, computed, where our calls and upstream's bodies part.
-use Prim.Native.Nat.{ℕ, _<_, suc}
-use mathlib.Core.Bool.{true, false}
-use mathlib.Core.List.{List, [], _∷_, _++_}
-use mathlib.Core.Logic.{_≢_}
-use mathlib.Core.Option.{some, none}
-use mathlib.Core.Path.{_≡_, refl, ap, sym, _∙_}
+use Prim.Native.Nat.{_<_}
+use mathlib.Core.Bool.{true}
+use mathlib.Core.List.{List, [], _∷_}
+use mathlib.Core.Option.{some}
+use mathlib.Core.Path.{_≡_, refl, ap}
 use native.Mathlib.Omega.{arith}
-use lib.ListN.{replicate, getD, set, take}
+use lib.ListN.{replicate}
 use Rattle.rules.specs.declared.Answer.{Answer}
 use Rattle.rules.specs.declared.Answer.the-variants.{Begun, Wrote, Done}
 use Rattle.rules.specs.declared.ReadAnswer.{ReadAnswer}
 use Rattle.rules.specs.declared.ReadAnswer.the-variants.{Key}
 use Rattle.rules.specs.Sizes.{base, lastId}
 use Rattle.rules.specs.Lists.{last, fold, has, keep, first, least, greatest, from}
-use Rattle.rules.specs.Versions.{at, tx, versionOf, wordsOf, cellAt, putCell, versionAt, lockedByOther}
-use Rattle.rules.specs.Slots.{words, threes, slotOf, push, opened, Rec, rec}
+use Rattle.rules.specs.Versions.{at, tx, versionOf, wordsOf, cellAt, putCell, versionAt, version, lockedFor, lockedByOther}
+use Rattle.rules.specs.Slots.{words, threes, slotOf, push, opened, rec}
 use Rattle.rules.specs.Slots as S
 use Rattle.rules.specs.Memory.{Mem, mem, clock, free, slotAt}
 use Rattle.rules.specs.Visible.{creatorVisible, visible, conflict}
@@ -116,3 +115,8 @@ part-at-a-refused-begin = (refl, refl, refl)
 pub part-at-the-first-xmin : (slotAt store 1 .id ≡ 3) × (slotAt store 1 .low ≡ 2)
 unfolding run step has keep first last fold least greatest from versionOf wordsOf cellAt putCell words threes slotOf push opened creatorVisible visible conflict chain look occupied vacant horizonOf guard each fits storeTests slotTests freshCells created createOut idsWith beginWords beginOut own answerAt recorded sightOf ownSight readRow readEnd readOut lockBase prepared headTests writeNow writeOut markBase commitTests publish commitOut
 part-at-the-first-xmin = (refl, refl)
+
+-- transaction 3 has written row 0: its version is locked for 3, all else of it is as it was
+pub part-at-the-base's-lock : versionAt (store .cells) 1 ≡ lockedFor (version 1 0 0 1 70 0 0) 3
+unfolding run step has keep first last fold least greatest from versionOf wordsOf cellAt putCell words threes slotOf push opened creatorVisible visible conflict chain look occupied vacant horizonOf guard each fits storeTests slotTests freshCells created createOut idsWith beginWords beginOut own answerAt recorded sightOf ownSight readRow readEnd readOut lockBase prepared headTests writeNow writeOut markBase commitTests publish commitOut
+part-at-the-base's-lock = refl

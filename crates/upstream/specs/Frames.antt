@@ -1,16 +1,15 @@
 -- What upstream's lifecycle and initialization clauses say stays: other slots, and the versions that a reader may look at.
-use Prim.Native.Nat.{ℕ, _<_, _≤_, suc}
+use Prim.Native.Nat.{ℕ, _<_, suc}
 use mathlib.Core.Bool.{true}
-use mathlib.Core.List.{List, [], _∷_, _++_}
+use mathlib.Core.List.{List, [], _++_}
 use mathlib.Core.Logic.{_≢_, inl}
 use mathlib.Core.Option.{Option}
 use mathlib.Core.Path.{_≡_, refl, sym, ap, _∙_, subst}
 use native.Mathlib.Omega.{arith}
-use lib.ListN.{getD, set}
+use lib.ListN.{getD}
 use lib.Seq.{getD-set-other}
 use borrow.Author.Tests.{ne-eqb, le-leb}
 use Rattle.rules.specs.declared.Answer.{Answer}
-use Rattle.rules.specs.declared.Version.{Version}
 use Rattle.rules.specs.Sizes.{Sizes, Roomy}
 use Rattle.rules.specs.Lists.{fold}
 use Rattle.rules.specs.Versions.{versionAt, versionOf, lockedFor, newVersion, putCell}
@@ -29,7 +28,6 @@ use Rattle.rules.specs.Terms.{NoEntry}
 use Rattle.rules.specs.WriteRefuses.{writeLines}
 use Rattle.rules.specs.WritePrepares.{write-keeps-other-cells, write-locks-the-base}
 use Rattle.rules.specs.HandedOut.{write-takes-the-first-free}
-use Rattle.rules.specs.Theory.Cases.{byEq}
 use Rattle.rules.specs.Theory.Counting.{cnt}
 use Rattle.rules.specs.Theory.Guard.{guardCase}
 use Rattle.rules.specs.Theory.Same.{slots-publish-all, slots-give-all}

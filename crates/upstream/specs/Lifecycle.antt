@@ -1,22 +1,21 @@
 -- Upstream's clauses on slots and clock: `checked_slot`, `begin_transaction`, `end_transaction`, `snapshot_locked`, `create_snapshot`,
 -- `create_transaction_snapshot`, `oldest_snapshot_xmin`.
 use Prim.Native.Nat.{ℕ, zero, suc, _<_, _≤_, _+_, min, max}
-use mathlib.Core.Bool.{Bool, true, false, cond}
-use mathlib.Core.List.{List, [], _∷_, _++_, map}
+use mathlib.Core.Bool.{cond}
+use mathlib.Core.List.{List, [], _∷_, _++_}
 use mathlib.Core.Logic.{_≢_}
-use mathlib.Core.Path.{_≡_, refl, sym, ap, _∙_, subst}
+use mathlib.Core.Path.{_≡_, refl, sym, ap, _∙_}
 use native.Mathlib.Omega.{arith}
-use native.Mathlib.Nat.{le-of-suc-le-suc}
-use lib.Dec.{eqb, ltb, leb}
+use lib.Dec.{eqb, ltb}
 use lib.ListN.{getD, set, take, length, length-set}
 use lib.Seq.{getD-set-same, getD-set-other, take-suc}
-use borrow.Author.Tests.{eq-eqb, ne-eqb, ltb-true, ltb-false, lt-ltb, le-ltb}
+use borrow.Author.Tests.{eq-eqb, ne-eqb, ltb-true, ltb-false, le-ltb}
 use Rattle.rules.specs.declared.Answer.{Answer}
-use Rattle.rules.specs.declared.Answer.the-variants.{Done, Begun}
-use Rattle.rules.specs.Sizes.{Sizes, Roomy, lastId, ID, LOW, CLOCK}
+use Rattle.rules.specs.declared.Answer.the-variants.{Done}
+use Rattle.rules.specs.Sizes.{Sizes, Roomy, lastId, ID, LOW}
 use Rattle.rules.specs.Lists.{least, greatest}
-use Rattle.rules.specs.Slots.{Slot, slotOf, emptied}
-use Rattle.rules.specs.Memory.{Mem, sizeN, clock, wordsAt, slotAt, withSlot, withMeta}
+use Rattle.rules.specs.Slots.{slotOf}
+use Rattle.rules.specs.Memory.{Mem, sizeN, clock, wordsAt, slotAt}
 use Rattle.rules.specs.Snapshot.{occupied, snapLow, snapTop, horizonOf, horizon}
 use Rattle.rules.specs.Horizon.{least-at-most}
 use Rattle.rules.specs.Begin.{idsWith, beginWords, begun}

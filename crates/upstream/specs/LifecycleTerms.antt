@@ -1,7 +1,7 @@
 -- What 000 says of slots and clock, over the words of the slots: `active`, `minimum_active`, `maximum_active`, `minimum_retention`,
 -- `coherent_snapshot`, `well_formed`. 000 counts over the first n slots, from the last one down.
 use Prim.Native.Nat.{ℕ, zero, suc, _<_, _≤_}
-use mathlib.Core.Bool.{Bool, cond}
+use mathlib.Core.Bool.{cond}
 use mathlib.Core.List.{List, [], _∷_, _++_}
 use mathlib.Core.Logic.{_≢_}
 use mathlib.Core.Path.{_≡_}

@@ -1,29 +1,26 @@
 -- Upstream's clauses on `materialize` and `materialize_after_checked_history`, of every reachable store and every open reader: the lookup
 -- over candidates, and the lookup over all rows. The predicate is equality with a key, 000's own `EqualsKey`.
 use Prim.Native.Nat.{ℕ, _<_, _≤_, _+_, zero, suc}
-use mathlib.Core.Bool.{Bool, true, false, not, _&&_, _||_, cond}
+use mathlib.Core.Bool.{Bool, true, false, not, _&&_, _||_}
 use mathlib.Core.List.{List, [], _∷_, _++_, append-nil}
 use mathlib.Core.Logic.{_≢_, _↔_}
 use mathlib.Core.Option.{Option, none, some}
 use mathlib.Core.Path.{_≡_, refl, sym, ap, _∙_, subst}
 use native.Mathlib.Omega.{arith}
-use lib.Dec.{eqb, leb, ltb}
-use lib.ListN.{getD, set, length, length-append}
+use lib.ListN.{length, length-append}
 use lib.Seq.{getD-set-same}
 use borrow.Author.Tests.{eq-eqb, ne-eqb, eqb-true}
 use Rattle.rules.specs.declared.Answer.{Answer}
-use Rattle.rules.specs.declared.ReadAnswer.{ReadAnswer}
-use Rattle.rules.specs.declared.ReadAnswer.the-variants.{None, Empty, Key}
-use Rattle.rules.specs.Sizes.{Sizes, Roomy, READS}
-use Rattle.rules.specs.Lists.{has, keep, from, orElse}
-use Rattle.rules.specs.Slots.{Slot, Write, Rec, addRecs, slotOf}
-use Rattle.rules.specs.Memory.{Mem, sizeR, wordsAt, slotAt, withSlot}
-use Rattle.rules.specs.Outcome.{Outcome, out, Test, refuse, guard, slotTests, each}
-use Rattle.rules.specs.Lookup.{isKey, Found, stopped, got, find, lookupEnd, lookupOut, lookupAllOut, candidateTests}
+use Rattle.rules.specs.Sizes.{Sizes, Roomy}
+use Rattle.rules.specs.Lists.{has, keep, from}
+use Rattle.rules.specs.Slots.{Slot, Rec, addRecs, slotOf}
+use Rattle.rules.specs.Memory.{Mem, wordsAt, slotAt, withSlot}
+use Rattle.rules.specs.Outcome.{Outcome, out, Test, refuse, slotTests, each}
+use Rattle.rules.specs.Lookup.{isKey, Found, stopped, got, lookupEnd, lookupOut, lookupAllOut, candidateTests}
 use Rattle.rules.specs.Run.{lookup, lookupAll, run, step}
-use Rattle.rules.specs.History.{Log, logOf, logged, Val, whoIn, rowsIn, cellsIn, ownIn, viewIn, valueIn, keyAnswer, answerOf}
+use Rattle.rules.specs.History.{Log, logOf, logged, Val, whoIn, rowsIn, cellsIn, ownIn, valueIn, keyAnswer, answerOf}
 use Rattle.rules.specs.Reachable.{Reachable, All}
-use Rattle.rules.specs.Listing.{Comes, its-list, its-trouble, rowsOf, hit, isNone, trouble, troubleValue}
+use Rattle.rules.specs.Listing.{Comes, its-list, its-trouble, rowsOf, hit, isNone}
 use Rattle.rules.specs.Demand3 as demand
 use Rattle.rules.specs.Theory.Cases.{byEq, byBool, and-true, no-both}
 use Rattle.rules.specs.Theory.SlotLaws.{withRecs, slot-recs, recs-length}
@@ -32,20 +29,17 @@ use Rattle.rules.specs.Theory.Effects.{slotV}
 use Rattle.rules.specs.Theory.Inv.{all-map}
 use Rattle.rules.specs.Theory.Guard.{guardCase, passed-split}
 use Rattle.rules.specs.Theory.Good.{Owner, owner}
-use Rattle.rules.specs.Theory.Never.{open-slot}
-use Rattle.rules.specs.Theory.ReadCall.{recs-count}
 use Rattle.rules.specs.Theory.LookupCall.{Fine, found-fine, rows-below, all-rows-below}
 use Rattle.rules.specs.Theory.Steps.{Sound, histOf}
 use Rattle.rules.specs.Theory.ReadLaw.{reachable-sound}
 use Rattle.upstream.specs.Images.{Image, imageOf, snapshot}
 use Rattle.upstream.specs.Seen.{firstVisible}
-use Rattle.upstream.specs.Transactions.{selectedValue}
 use Rattle.upstream.specs.ReadTerms.{ViewSame, Extends, Observed, equalsKey, MatchesRow}
 use Rattle.upstream.specs.Told.{toldBy, selected-value-is-history, every-record-is-observed}
 
 -- an answer that is no refusal
-abbrev pub Listed! : Answer → Type 0
-Listed! a = (k x : ℕ) → a ≡ Answer.Refused k x → ⊥
+abbrev pub Granted : Answer → Type 0
+Granted a = (k x : ℕ) → a ≡ Answer.Refused k x → ⊥
 
 has-keep : (p : ℕ → Bool) (r : ℕ) (l : List ℕ) → has r (keep p l) ≡ (has r l && p r)
 unfolding has keep
@@ -104,7 +98,7 @@ module _ {z : Sizes} (rm : Roomy z) (m : Mem z) (l : Log) (rc : Reachable m l) (
       (λ h. record { row = rw (so .rows) lt; value = e ∙ k .0 h }, λ q. k .1 (sym e ∙ q .value))
 
   -- what a lookup lists among rows in range
-  listed-exactly : (rows : List ℕ) → ((r : ℕ) → has r rows ≡ true → r < rowsIn l) → (o : Outcome z Answer ℕ) → Comes m l s key room rows o → Listed! (o .answer)
+  listed-exactly : (rows : List ℕ) → ((r : ℕ) → has r rows ≡ true → r < rowsIn l) → (o : Outcome z Answer ℕ) → Comes m l s key room rows o → Granted (o .answer)
       → (r : ℕ) → (has r (o .front) ≡ true) ↔ ((has r rows ≡ true) × MatchesRow (imageOf m) t key r)
   listed-exactly rows low _ (its-list o n a e) acc r = rw e (
     (λ h. let k = and-true (has r rows) (hit m l s key r) (sym (has-keep (hit m l s key) r rows) ∙ h) in (k .0, matches-row-is-history r (low r (k .0)) .0 (k .1))),
@@ -121,22 +115,26 @@ module _ {z : Sizes} (rm : Roomy z) (m : Mem z) (l : Log) (rc : Reachable m l) (
       (λ h. let k = and-true (has r (from 0 (rowsIn l))) (p r) (sym e ∙ h) in (below r (rowsIn l) (k .0), k .1), λ h. e ∙ rw (from-has r 0 (rowsIn l) (omega arith) (omega (arith, h .0)), h .1))
 
   -- `materialize`, Ok: the rows listed are exactly the candidates and own rows that match
-  pub materialize-ok-lists-exactly-the-matching-rows : (cands : List ℕ) → All (λ r. r < rowsIn l) cands → Listed! (lookupOut m s (whoIn l s) key cands room .answer)
+  pub materialize-ok-lists-exactly-the-matching-rows : (cands : List ℕ) → All (λ r. r < rowsIn l) cands → Granted (lookupOut m s (whoIn l s) key cands room .answer)
       → (r : ℕ) → (has r (lookupOut m s (whoIn l s) key cands room .front) ≡ true) ↔ (MatchesRow (imageOf m) t key r × ((has r cands || not (isNone (ownIn l s r))) ≡ true))
   materialize-ok-lists-exactly-the-matching-rows cands a acc r =
       let k = listed-exactly (rowsOf m l s cands) (λ r h. read-rows cands r .0 h .0) (lookupOut m s (whoIn l s) key cands room) (demand.lookup-lists-exactly-the-rows-with-the-key rm m l rc s key room op cands a) acc r in
       (λ h. let q = k .0 h in (q .1, read-rows cands r .0 (q .0) .1), λ h. k .1 (read-rows cands r .1 (rw (so .rows) at (h .0 .row), h .1), h .0))
 
   -- so, where the candidates and own rows are all that match (upstream's premise, the caller's fact), exactly those that match
-  pub materialize-ok-with-complete-candidates : (cands : List ℕ) → All (λ r. r < rowsIn l) cands → Listed! (lookupOut m s (whoIn l s) key cands room .answer)
+  pub materialize-ok-with-complete-candidates : (cands : List ℕ) → All (λ r. r < rowsIn l) cands → Granted (lookupOut m s (whoIn l s) key cands room .answer)
       → ((r : ℕ) → MatchesRow (imageOf m) t key r → (has r cands || not (isNone (ownIn l s r))) ≡ true)
       → (r : ℕ) → (has r (lookupOut m s (whoIn l s) key cands room .front) ≡ true) ↔ MatchesRow (imageOf m) t key r
   materialize-ok-with-complete-candidates cands a acc whole r =
       let k = materialize-ok-lists-exactly-the-matching-rows cands a acc r in
       (λ h. k .0 h .0, λ h. k .1 (h, whole r h))
 
+  -- the premise can be met: all rows, as candidates, are complete
+  pub all-rows-are-complete-candidates : (r : ℕ) → MatchesRow (imageOf m) t key r → (has r (from 0 (rowsIn l)) || not (isNone (ownIn l s r))) ≡ true
+  all-rows-are-complete-candidates r q = let lt : r < rowsIn l = rw (so .rows) at (q .row) in rw (from-has r 0 (rowsIn l) (omega arith) (omega arith))
+
   -- `materialize_after_checked_history`, Ok: over all rows no premise is needed
-  pub materialize-all-ok-lists-exactly-the-matching-rows : Listed! (lookupAllOut m s (whoIn l s) key room .answer)
+  pub materialize-all-ok-lists-exactly-the-matching-rows : Granted (lookupAllOut m s (whoIn l s) key room .answer)
       → (r : ℕ) → (has r (lookupAllOut m s (whoIn l s) key room .front) ≡ true) ↔ MatchesRow (imageOf m) t key r
   materialize-all-ok-lists-exactly-the-matching-rows acc r =
       let k = listed-exactly (from 0 (rowsIn l)) (λ r h. below r (rowsIn l) h) (lookupAllOut m s (whoIn l s) key room) (demand.lookup-all-lists-exactly-the-rows-with-the-key rm m l rc s key room op) acc r in

@@ -188,9 +188,9 @@ pictures =
 -- ---- the smallest examples where an image of ours parts from 000's
 
 -- after a commit: 000 keeps the base's lock and owner, here they are cleared
-pub part-at-the-base's-lock : (publicationPrefix (imageOf written) (S.write 0 2 3) 4 3 .rows 2 ≡ version 2 4 1 1 70 1 4) × (imageOf afterCommit .rows 2 ≡ version 2 4 1 1 70 0 0)
+pub part-at-the-base's-lock-after-commit : (publicationPrefix (imageOf written) (S.write 0 2 3) 4 3 .rows 2 ≡ version 2 4 1 1 70 1 4) × (imageOf afterCommit .rows 2 ≡ version 2 4 1 1 70 0 0)
 unfolding run step has keep first last fold least greatest from versionOf wordsOf cellAt putCell words threes slotOf push opened creatorVisible visible conflict chain look occupied vacant horizonOf guard each fits storeTests slotTests freshCells created createOut idsWith beginWords beginOut own answerAt recorded sightOf ownSight readRow readEnd readOut lockBase prepared headTests writeNow writeOut markBase commitTests publish commitOut
-part-at-the-base's-lock = (refl, refl)
+part-at-the-base's-lock-after-commit = (refl, refl)
 
 -- after a vacuum: 000 keeps the metadata of a reclaimed cell, here it is cleared
 pub part-at-the-reclaimed-cell : (imageOf afterCommit .rows 1 ≡ version 1 2 0 0 0 0 0) × (imageOf afterVacuum .rows 1 ≡ emptyVersion)

@@ -1,40 +1,37 @@
 -- Upstream's clauses on finding and reading a version, of every reachable store and every open reader: `find_visible_row_ptr`,
 -- `latest_pending`, `record_read`, `read`. What is a visible version is said by 000's own `visible`.
 use Prim.Native.Nat.{ℕ, _<_, _≤_, _+_, zero, suc}
-use mathlib.Core.Bool.{Bool, true, false, not, _&&_, _||_, cond}
+use mathlib.Core.Bool.{Bool, true, false, cond}
 use mathlib.Core.List.{List, [], _∷_, _++_, append-nil}
 use mathlib.Core.Logic.{_≢_, _⊎_, _↔_, inl, inr, ⊎-elim}
 use mathlib.Core.Option.{Option, none, some}
 use mathlib.Core.Path.{_≡_, refl, sym, ap, _∙_, subst}
 use native.Mathlib.Omega.{arith}
 use lib.Dec.{eqb, leb, ltb}
-use lib.ListN.{getD, set, take, length, length-append}
+use lib.ListN.{getD, take, length, length-append}
 use lib.Seq.{getD-set-same}
-use borrow.Author.Tests.{eq-eqb, ne-eqb, le-leb, lt-leb, le-ltb, lt-ltb, ltb-true, ltb-false, leb-false, leb-true, not-true, not-false, eqb-false}
+use borrow.Author.Tests.{eq-eqb, ne-eqb, le-leb, lt-leb, ltb-true, ltb-false, leb-false, not-true, eqb-false}
 use Rattle.rules.specs.declared.Version.{Version}
 use Rattle.rules.specs.declared.ReadAnswer.{ReadAnswer}
-use Rattle.rules.specs.declared.ReadAnswer.the-variants.{None, Empty, Key}
-use Rattle.rules.specs.Sizes.{Sizes, Roomy, READS}
+use Rattle.rules.specs.declared.ReadAnswer.the-variants.{None}
+use Rattle.rules.specs.Sizes.{Sizes, Roomy}
 use Rattle.rules.specs.Numbers.{chainTooLong, readSetFull, damaged}
-use Rattle.rules.specs.Lists.{nonzero, first, last, orElse, fold}
+use Rattle.rules.specs.Lists.{nonzero, first, last, orElse}
 use Rattle.rules.specs.Versions.{versionAt}
-use Rattle.rules.specs.Versions as words
 use Rattle.rules.specs.Slots.{Slot, Write, Rec, rec, addRecs, slotOf}
-use Rattle.rules.specs.Memory.{Mem, sizeR, sizeN, headAt, wordsAt, slotAt, withSlot}
-use Rattle.rules.specs.Visible as ours
-use Rattle.rules.specs.Chain.{Chain, chain, chained, After, ends, goesOn, broken, Look, found, nothing, tooLong, harmed, lookOf, look}
+use Rattle.rules.specs.Memory.{Mem, sizeN, headAt, wordsAt, slotAt, withSlot}
+use Rattle.rules.specs.Chain.{Chain, chain, After, ends, goesOn, broken, Look, found, nothing, tooLong, harmed, lookOf, look}
 use Rattle.rules.specs.Outcome.{Outcome, refuseRead, slotTests, rowTest, isCell}
-use Rattle.rules.specs.Read.{own, answerAt, recorded, Sight, blocked, sees, sightOf, ownSight, readRow, readAt, readEnd, readOut}
+use Rattle.rules.specs.Read.{own, answerAt, recorded, blocked, sees, sightOf, ownSight, readRow, readEnd, readOut}
 use Rattle.rules.specs.History.{Log, whoIn, rowsIn, cellsIn}
-use Rattle.rules.specs.Reachable.{Reachable, All, In, chainAt, walkedAt, seesAt, times}
-use Rattle.rules.specs.Theory.Cases.{byEq, byBool, and-true, or-true, no-both}
+use Rattle.rules.specs.Reachable.{Reachable, In, chainAt, walkedAt, seesAt, times}
+use Rattle.rules.specs.Theory.Cases.{byBool, and-true, or-true}
 use Rattle.rules.specs.Theory.SlotLaws.{withRecs, slot-recs, recs-length}
 use Rattle.rules.specs.Theory.View.{viewOf}
 use Rattle.rules.specs.Theory.Counting.{cnt}
-use Rattle.rules.specs.Theory.Inv.{nexts}
-use Rattle.rules.specs.Theory.Chains.{all-below, chain-spelled, restOf, rest-ends, take-whole}
+use Rattle.rules.specs.Theory.Chains.{all-below, chain-spelled, restOf, take-whole}
 use Rattle.rules.specs.Theory.Places.{chain-cell}
-use Rattle.rules.specs.Theory.Guard.{guardCase, passed-split}
+use Rattle.rules.specs.Theory.Guard.{guardCase}
 use Rattle.rules.specs.Theory.Good.{Owner}
 use Rattle.rules.specs.Theory.Never.{open-slot}
 use Rattle.rules.specs.Theory.OnePlace.{times-is}
@@ -42,10 +39,10 @@ use Rattle.rules.specs.Theory.Facts.{at-row}
 use Rattle.rules.specs.Theory.Steps.{Sound, histOf}
 use Rattle.rules.specs.Theory.ReadLaw.{reachable-sound}
 use Rattle.upstream.specs.Images.{Image, imageOf, stored, Snapshot, snapshot}
-use Rattle.upstream.specs.Seen.{visible, firstAlong, firstVisible, along, reachable}
-use Rattle.upstream.specs.Transactions.{lastWrite, selectedPointer, selectedValue, valueAt, valueOf, answered}
+use Rattle.upstream.specs.Seen.{visible, firstAlong, firstVisible, along}
+use Rattle.upstream.specs.Transactions.{lastWrite, selectedValue, valueAt, answered}
 use Rattle.upstream.specs.ReadTerms.{ViewSame, Extends, recording, Observed, Provenance, recordsAfter}
-use Rattle.upstream.specs.Standing.{visibility-agrees-in-reachable-stores, reachable-image-is-valid}
+use Rattle.upstream.specs.Standing.{visibility-agrees-in-reachable-stores}
 
 -- ---- along a chain
 

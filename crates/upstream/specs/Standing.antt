@@ -1,15 +1,14 @@
 -- Every reachable store meets what upstream's terms ask of it: the theorems, in the words of the memory. Born.antt and BornCalls.antt have
 -- their proof.
 use Prim.Native.Nat.{ℕ, _<_, _≤_, zero, suc}
-use mathlib.Core.Bool.{true, false, not}
+use mathlib.Core.Bool.{true, not}
 use mathlib.Core.List.{List, [], _∷_, _++_}
 use mathlib.Core.Logic.{_≢_, inl, inr}
 use mathlib.Core.Option.{Option}
 use mathlib.Core.Path.{_≡_, refl, sym, ap, _∙_, subst}
 use native.Mathlib.Omega.{arith}
-use native.Mathlib.Nat.{le-of-suc-le-suc}
 use lib.Dec.{eqb, leb, ltb}
-use lib.ListN.{getD, length, take}
+use lib.ListN.{getD, length}
 use borrow.Author.Tests.{not-false, ne-eqb, le-leb, leb-true, eqb-false, not-true}
 use Rattle.rules.specs.declared.Answer.{Answer}
 use Rattle.rules.specs.declared.Answer.the-variants.{Done, Begun, Wrote, Vacuumed, Listed}
@@ -20,8 +19,7 @@ use Rattle.rules.specs.Lists.{nonzero, has}
 use Rattle.rules.specs.Versions.{versionAt}
 use Rattle.rules.specs.Slots.{Slot, Write}
 use Rattle.rules.specs.Memory.{Mem, sizeR, sizeN, headAt, slotAt}
-use Rattle.rules.specs.Visible as ours
-use Rattle.rules.specs.Chain.{Chain, chain, ends, chained}
+use Rattle.rules.specs.Chain.{Chain, chain}
 use Rattle.rules.specs.Outcome.{Outcome, refuse, test, fits, isCell}
 use Rattle.rules.specs.Create.{createOut}
 use Rattle.rules.specs.Begin.{beginOut}
@@ -36,9 +34,8 @@ use Rattle.rules.specs.Theory.Cases.{byEq, byBool, byLe, and-true, no-both}
 use Rattle.rules.specs.Theory.View.{View, viewOf, get-slots}
 use Rattle.rules.specs.Theory.Effects.{slotV}
 use Rattle.rules.specs.Theory.Counting.{cnt, cnt-head, cnt-tail, cnt-other}
-use Rattle.rules.specs.Theory.Inv.{Inv, Spelled, nexts, inSlot, Entries, vers, verOf}
-use Rattle.rules.specs.Theory.Publish.{nextsF}
-use Rattle.rules.specs.Theory.Chains.{AllBelow, all-below, chain-spelled, restOf, rest-ends, take-whole}
+use Rattle.rules.specs.Theory.Inv.{Inv, Spelled, nexts, inSlot, Entries, vers}
+use Rattle.rules.specs.Theory.Chains.{all-below, chain-spelled, take-whole}
 use Rattle.rules.specs.Theory.Places.{own-cell, chain-cell}
 use Rattle.rules.specs.Theory.Guard.{guardCase}
 use Rattle.rules.specs.Theory.Good.{Owner}
@@ -48,11 +45,11 @@ use Rattle.rules.specs.Theory.Facts.{at-row}
 use Rattle.rules.specs.Theory.VacuumCall.{row-chain}
 use Rattle.rules.specs.Theory.Steps.{Sound, histOf, step-sound, create-starts, commits-sizes}
 use Rattle.rules.specs.Theory.ReadLaw.{reachable-sound}
-use Rattle.upstream.specs.Images.{Image, imageOf, stored, Points, ImageValid, snapshot}
+use Rattle.upstream.specs.Images.{imageOf, stored, ImageValid, snapshot}
 use Rattle.upstream.specs.Seen.{visible}
 use Rattle.upstream.specs.Transactions.{TransactionValid}
 use Rattle.upstream.specs.Visibility.{LowFirst, Plain, visible-agrees}
-use Rattle.upstream.specs.Born.{Born, On, head, next, on-row, row-on, on-unslot, on-inside, minOf}
+use Rattle.upstream.specs.Born.{Born, On, head, next, on-row, row-on, on-unslot, on-inside}
 use Rattle.upstream.specs.BornCalls.{create-born, begin-born, read-born, write-born, commit-born, abort-born, vacuum-born, lookup-born, lookup-all-born}
 
 -- ---- every call, and every run

@@ -1,29 +1,26 @@
 -- What 000's terms say of a reachable store is what its history says: `selected_value`, and the records of an open reader.
-use Prim.Native.Nat.{ℕ, _<_, _≤_, suc}
-use mathlib.Core.Bool.{Bool, true, false, cond}
+use Prim.Native.Nat.{ℕ, _<_, suc}
+use mathlib.Core.Bool.{true, false}
 use mathlib.Core.List.{List, [], _∷_}
 use mathlib.Core.Logic.{_≢_}
 use mathlib.Core.Option.{Option, none, some}
 use mathlib.Core.Path.{_≡_, refl, sym, ap, _∙_, subst}
-use native.Mathlib.Omega.{arith}
-use lib.Dec.{eqb}
-use lib.ListN.{getD, length}
-use borrow.Author.Tests.{eq-eqb}
+use lib.ListN.{getD}
 use Rattle.rules.specs.declared.Version.{Version}
 use Rattle.rules.specs.Sizes.{Sizes, Roomy}
-use Rattle.rules.specs.Lists.{nonzero, first, orElse}
+use Rattle.rules.specs.Lists.{first}
 use Rattle.rules.specs.Versions.{versionAt}
 use Rattle.rules.specs.Slots.{Slot, Write, Rec}
-use Rattle.rules.specs.Memory.{Mem, sizeR, headAt, slotAt}
+use Rattle.rules.specs.Memory.{Mem, headAt, slotAt}
 use Rattle.rules.specs.Visible as ours
 use Rattle.rules.specs.Read.{own}
 use Rattle.rules.specs.History.{Log, Val, whoIn, rowsIn, cellsIn, ownIn, viewIn, valueIn}
 use Rattle.rules.specs.Reachable.{Reachable, All, chainAt, seesAt}
 use Rattle.rules.specs.Theory.Cases.{byEq, byBool, no-both}
-use Rattle.rules.specs.Theory.View.{View, viewOf, get-slots}
+use Rattle.rules.specs.Theory.View.{viewOf, get-slots}
 use Rattle.rules.specs.Theory.Effects.{slotV}
-use Rattle.rules.specs.Theory.Counting.{cnt, cnt-head, cnt-other}
-use Rattle.rules.specs.Theory.Inv.{Ver, verOf, vers, vis, vis-is, pick, Single, Open, Recorded, ownFind, all-map}
+use Rattle.rules.specs.Theory.Counting.{cnt, cnt-other}
+use Rattle.rules.specs.Theory.Inv.{verOf, vers, vis, vis-is, pick, Single, Open, Recorded, all-map}
 use Rattle.rules.specs.Theory.Places.{placed-row}
 use Rattle.rules.specs.Theory.Publish.{versF}
 use Rattle.rules.specs.Theory.Reading.{Own, own-is}
@@ -34,7 +31,7 @@ use Rattle.rules.specs.Theory.Steps.{Sound, histOf}
 use Rattle.rules.specs.Theory.ReadLaw.{reachable-sound}
 use Rattle.upstream.specs.Images.{Image, imageOf, snapshot}
 use Rattle.upstream.specs.Seen.{firstVisible}
-use Rattle.upstream.specs.Transactions.{lastWrite, selectedValue, valueAt, valueOf}
+use Rattle.upstream.specs.Transactions.{lastWrite, selectedValue, valueAt}
 use Rattle.upstream.specs.ReadTerms.{Observed}
 use Rattle.upstream.specs.Reading.{newOf, latest-pending-is-last-write, first-visible-agrees, seen-is-stored}
 

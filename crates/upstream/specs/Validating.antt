@@ -1,16 +1,15 @@
 -- Upstream's clause on `has_serialization_conflict`, of every reachable store and every open transaction with writes: its Ok answer is
 -- whether our commit is refused with 9, and it is always Ok.
 use Prim.Native.Nat.{ℕ}
-use mathlib.Core.Bool.{Bool, true, false, not, _&&_, _||_}
+use mathlib.Core.Bool.{true, false}
 use mathlib.Core.List.{List, [], _∷_, _++_, append-assoc}
 use mathlib.Core.Logic.{_≢_, _↔_}
-use mathlib.Core.Path.{_≡_, refl, sym, ap, _∙_, subst}
-use lib.Dec.{eqb, leb}
+use mathlib.Core.Path.{_≡_, refl, sym, ap, _∙_}
 use Rattle.rules.specs.declared.Answer.{Answer}
 use Rattle.rules.specs.declared.Version.{Version}
 use Rattle.rules.specs.Sizes.{Sizes, Roomy}
 use Rattle.rules.specs.Numbers.{readConflict}
-use Rattle.rules.specs.Lists.{nonzero, has}
+use Rattle.rules.specs.Lists.{nonzero}
 use Rattle.rules.specs.Versions.{versionAt}
 use Rattle.rules.specs.Slots.{Slot, Write, Rec}
 use Rattle.rules.specs.Memory.{Mem, sizeN, slotAt}
@@ -24,13 +23,12 @@ use Rattle.rules.specs.CommitRefusedWhen.{commit-refused-9-names-first-conflict
 use Rattle.rules.specs.Theory.Cases.{byBool, or-true, no-both}
 use Rattle.rules.specs.Theory.Inv.{all-map}
 use Rattle.rules.specs.Theory.Guard.{Passed}
-use Rattle.rules.specs.Theory.Good.{Owner}
 use Rattle.rules.specs.Theory.Never.{open-slot, slot-passed}
 use Rattle.rules.specs.Theory.Steps.{Sound, histOf}
 use Rattle.rules.specs.Theory.ReadLaw.{reachable-sound}
-use Rattle.upstream.specs.Images.{Image, imageOf, stored}
+use Rattle.upstream.specs.Images.{imageOf}
 use Rattle.upstream.specs.ReadTerms as up
-use Rattle.upstream.specs.ReadTerms.{someConflict, readsConflict, Observed}
+use Rattle.upstream.specs.ReadTerms.{someConflict, readsConflict}
 use Rattle.upstream.specs.Told.{every-record-is-observed}
 
 -- `read_conflict` of 000 is 01's Validation, for any version, record and reader

@@ -1,16 +1,16 @@
 -- Where 000's visibility and 01's agree, and the smallest examples where they part. 01 looks at no snapshot xmin, holds id 0 for nobody,
 -- and does not see an own version that was superseded by a visible one.
 use Prim.Native.Nat.{ℕ, _<_, _≤_}
-use mathlib.Core.Bool.{Bool, true, false, not, _&&_, _||_}
+use mathlib.Core.Bool.{true, false, not, _&&_, _||_}
 use mathlib.Core.List.{List, [], _∷_}
-use mathlib.Core.Logic.{_≢_}
-use mathlib.Core.Path.{_≡_, refl, sym, _∙_}
+use mathlib.Core.Logic.{_≢_, _↔_}
+use mathlib.Core.Path.{_≡_, refl, sym}
 use native.Mathlib.Omega.{arith}
-use lib.Dec.{eqb, ltb, leb}
-use borrow.Author.Tests.{eq-eqb, ne-eqb, lt-ltb, le-ltb, le-leb, lt-leb}
+use lib.Dec.{eqb, leb}
+use borrow.Author.Tests.{eq-eqb, ne-eqb, lt-ltb, le-ltb, le-leb, lt-leb, not-true}
 use Rattle.rules.specs.declared.Version.{Version}
 use Rattle.rules.specs.Lists.{nonzero, has}
-use Rattle.rules.specs.Versions.{version, tx}
+use Rattle.rules.specs.Versions.{version}
 use Rattle.rules.specs.Slots.{Slot}
 use Rattle.rules.specs.Reachable.{All}
 use Rattle.rules.specs.Theory.Cases.{byBool, byEq, byLe}
@@ -65,6 +65,17 @@ unfolding visible ours.visible
 visible-agrees t v k p = byEq (v .xmin .0) (t .id)
     (λ own. rw (eq-eqb (v .xmin .0) (t .id) own, own-seen t (v .xmin .0) (p .created) own, eq-eqb (v .xmax .0) 0 (p .unsuperseded own)))
     (λ other. rw (ne-eqb (v .xmin .0) (t .id) other, creator-visible-agrees t k (v .xmin .0) (p .created), past-agrees t (v .xmax .0)))
+
+-- And no further: of a version that has a creator, under such a snapshot, they agree exactly where it is no own version whose xmax 01 sees.
+pub visible-agrees-exactly : (t : Slot) (v : Version) → LowFirst t → v .xmin .0 ≢ 0
+    → (visible v (snapshot t) ≡ ours.visible t v) ↔ (v .xmin .0 ≡ t .id → (nonzero (v .xmax .0) && ours.creatorVisible t (v .xmax .0)) ≡ false)
+unfolding visible ours.visible
+visible-agrees-exactly t v k nz = (
+  λ e own. not-true _ (sym (rw (eq-eqb (v .xmin .0) (t .id) own, own-seen t (v .xmin .0) nz own) at e)),
+  λ h. byEq (v .xmin .0) (t .id)
+      (λ own. rw (eq-eqb (v .xmin .0) (t .id) own, own-seen t (v .xmin .0) nz own, h own))
+      (λ other. rw (ne-eqb (v .xmin .0) (t .id) other, creator-visible-agrees t k (v .xmin .0) nz, past-agrees t (v .xmax .0))),
+)
 
 -- ---- the smallest examples where they part: each breaks one premise
 
