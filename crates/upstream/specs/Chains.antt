@@ -1,5 +1,5 @@
 -- The first seen version of a chain, and what lies in front of it, where members of the chain are left out.
-use Prim.Native.Nat.{ℕ}
+use Prim.Native.Nat.{ℕ, _<_}
 use mathlib.Core.Bool.{Bool, true, false}
 use mathlib.Core.List.{List, [], _∷_}
 use mathlib.Core.Option.{some}
@@ -9,8 +9,9 @@ use native.Mathlib.Omega.{arith}
 use Rattle.rules.specs.declared.Version.{Version}
 use Rattle.rules.specs.Lists.{first}
 use Rattle.rules.specs.Theory.Cases.{byBool, no-both}
-use Rattle.rules.specs.Exactly.{In}
+use Rattle.rules.specs.Exactly.{In, All, all-map}
 use Rattle.rules.specs.Along.{Along}
+use Rattle.rules.specs.Members.{all-in, in-all, picks-in}
 use Rattle.rules.specs.VacuumRefuses.{Picks}
 use Rattle.upstream.specs.Images.{Image, Snapshot}
 use Rattle.upstream.specs.Seen.{visible, firstVisible}
@@ -94,3 +95,32 @@ next-same-above see f g P a (d ∷ l) k x y (inl q) n c i ne = byBool (see (f a)
 next-same-above see f g P a (d ∷ l) k x y (inr q) n c i ne = byBool (see (f a))
     (λ b. absurd (only a c (rw b at ne) (rw b at i)))
     (λ b. absurd (q .0 (n d (rw b (inr (inl refl))))))
+
+-- ---- ranks that fall along a list
+
+abbrev pub Falling : (ℕ → ℕ) → List ℕ → Type 0
+Falling rank [] = Unit {0}
+Falling rank (a ∷ l) = All (λ c. rank c < rank a) l × Falling rank l
+
+-- a rank that falls along next falls along the chain's list
+pub falling-along : (f : ℕ → Version) (rank : ℕ → ℕ) (l : List ℕ) (h : ℕ) → All (λ c. f c .next .0 ≢ 0 → rank (f c .next .0) < rank c) l → All (λ c. c ≢ 0) l → Along f h l 0 → Falling rank l
+falling-along f rank [] h falls real a = tt
+falling-along f rank (c ∷ []) h falls real a = (tt, tt)
+falling-along f rank (c ∷ d ∷ l) h falls real a =
+    let r = falling-along f rank (d ∷ l) (f c .next .0) (falls .1) (real .1) (a .1) in
+    let lt : rank d < rank c = subst (λ (y : ℕ). rank y < rank c) (a .1 .0) (falls .0 (λ e. real .1 .0 (sym (a .1 .0) ∙ e))) in
+    ((lt, all-map (λ (x : ℕ). rank x < rank d) (λ (x : ℕ). rank x < rank c) (λ x b. omega arith) l (r .0)), r)
+
+-- it falls along what is picked of the list
+pub falling-picked : (rank : ℕ → ℕ) (P : ℕ → Type 0) (l k : List ℕ) → Picks P l k → Falling rank l → Falling rank k
+falling-picked rank P [] k i f = rw i tt
+falling-picked rank P (a ∷ l) k (inl i) f = rw (i .1 .1) (in-all _ (i .1 .0) (λ x j. all-in _ l (f .0) x (picks-in P l (i .1 .0) (i .1 .2) x .0 j .0)), falling-picked rank P l (i .1 .0) (i .1 .2) (f .1))
+falling-picked rank P (a ∷ l) k (inr i) f = falling-picked rank P l k (i .1) (f .1)
+
+-- and so from a member of a chain to the next
+pub falling-next : (g : ℕ → Version) (rank : ℕ → ℕ) (l : List ℕ) (h : ℕ) → Falling rank l → Along g h l 0 → (p : ℕ) → In p l → g p .next .0 ≢ 0 → rank (g p .next .0) < rank p
+falling-next g rank [] h f a p i n = absurd i
+falling-next g rank (c ∷ []) h f a p (inl e) n = absurd (n (rw e (a .1)))
+falling-next g rank (c ∷ []) h f a p (inr i) n = absurd i
+falling-next g rank (c ∷ d ∷ l) h f a p (inl e) n = rw e (subst (λ (y : ℕ). rank y < rank c) (sym (a .1 .0)) (f .0 .0))
+falling-next g rank (c ∷ d ∷ l) h f a p (inr i) n = falling-next g rank (d ∷ l) (g c .next .0) (f .1) (a .1) p i n

@@ -1,12 +1,13 @@
 -- 000's `prepared` is a fact of every reachable store: each entry of an open write set whose base is its row's head is prepared. (The base
 -- of an entry made on an empty row may have been overtaken: such a commit is refused with 8.)
 use Prim.Native.Nat.{ℕ, zero, suc, _+_, _≤_, _<_}
-use mathlib.Core.Bool.{true}
+use mathlib.Core.Bool.{true, cond}
 use mathlib.Core.List.{List, [], _∷_}
 use mathlib.Core.Path.{_≡_, refl, sym, ap, _∙_, subst}
 use mathlib.Core.Logic.{_≢_, _⊎_, inl, inr, ⊎-elim}
 use native.Mathlib.Omega.{arith}
-use borrow.Author.Tests.{not-false, ne-eqb}
+use lib.Dec.{eqb}
+use borrow.Author.Tests.{not-false, eq-eqb, ne-eqb}
 use Rattle.rules.specs.declared.Version.{Version}
 use Rattle.rules.specs.Sizes.{Sizes, Roomy}
 use Rattle.rules.specs.Lists.{from}
@@ -149,6 +150,23 @@ module _ {z : Sizes} (rm : Roomy z) (m : Mem z) (l : Log) (rc : Reachable m l) w
         base-stored n =
             let q = all-at _ (slotAt m s .writes) (all-entered (rowsIn l) (cellsIn l) m (histOf l) so s (whoIn l s) owns) w i in
             holds-true _ (is-cell (sizeN m) (w .base)) (record { low = positive (w .base) n; high = q .base-in })
+
+    -- .12: there is a rank that falls along next and puts the new cell above its base
+    pub open-write-ranks-above-its-base : headAt m (w .row) ≡ w .base → (rank : ℕ → ℕ) × ((p : ℕ) → stored (imageOf m) p ≡ true → versionAt (m .cells) p .next .0 ≢ 0 → rank (versionAt (m .cells) p .next .0) < rank p) × (rank (w .base) < rank (w .new))
+    open-write-ranks-above-its-base headed =
+        let q = open-write-is-prepared headed in
+        let v = q .valid in
+        let at = versionAt (m .cells) in
+        let up : ℕ → ℕ = λ p. cond (eqb p (w .new)) (suc (v .rank (w .base))) (v .rank p) in
+        let new-up : up (w .new) ≡ suc (v .rank (w .base)) = rw (eq-eqb (w .new) (w .new) refl) in
+        let else-up : (p : ℕ) → p ≢ w .new → up p ≡ v .rank p = λ p n. rw (ne-eqb p (w .new) n) in
+        let bare : at (w .new) .next .0 ≡ 0 = unchained-cell-links-to-nothing rm m l rc (w .new) (λ o. omega (arith, new-is-a-cell .low, o)) (omega (arith, new-is-a-cell .high, sizes-are-the-creations rm m l rc .1)) (λ r b. not-times (w .new) (chainAt m r .cells) (new-is-unchained r b)) in (
+          up,
+          (λ p st n. byEq p (w .new)
+              (λ e. absurd (n (ap (λ (c : ℕ). at c .next .0) e ∙ bare)))
+              (λ d. let a = else-up (at p .next .0) (q .unlinked p st d) in let b = else-up p d in omega (arith, v .falls p st n))),
+          (let a = else-up (w .base) (λ e. q .apart (sym e)) in omega arith),
+        )
 
     -- .. and 000's `admissible` fails for a reader that has prepared a write, at every horizon: its new cell is a stored version of its own.
     -- So 000's vacuum promises such a reader nothing; ours is `vacuum-row-acquired-is-safe`

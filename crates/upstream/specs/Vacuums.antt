@@ -31,11 +31,11 @@ use Rattle.rules.specs.Relinked.{relink-length, relink-else}
 use Rattle.rules.specs.HandedOut.{FreeList, free-agree, give-all-in-front}
 use Rattle.rules.specs.VacuumRefuses.{Reclaimable, WholeChain, DeadOf, vacuumLines, ended-chain}
 use Rattle.rules.specs.OneOutcome.{KeptOf, vacuum-meets}
-use Rattle.upstream.specs.Images.{imageOf, stored}
+use Rattle.upstream.specs.Images.{imageOf, stored, ImageValid}
 use Rattle.upstream.specs.Seen.{reachable}
 use Rattle.upstream.specs.RetentionTerms.{Eligible, DataSame, MetadataSame, MetadataSameBut, ReportProvenance, Reclaimed, liveOf, reclaimedOf, ReclaimedProvenance, firstSeen, prefix, PrefixIneligible}
 use Rattle.upstream.specs.Reading.{reachable-is-the-chain}
-use Rattle.upstream.specs.Chains.{first-without, first-in, next-same-above}
+use Rattle.upstream.specs.Chains.{first-without, first-in, next-same-above, Falling, falling-along, falling-picked, falling-next}
 use Rattle.rules.specs.VacuumRemoves as W
 use Rattle.upstream.specs.Transactions as up
 
@@ -160,6 +160,28 @@ module _ {z : Sizes} (m : Mem z) (row request room : ℕ) (accepted : NoneOf (va
       let o = all-in (CellOf (sizeN m)) (h ∷ l) (whole .way .cells) c (inr (p .0)) in
       let s = q .rows c (holds-true _ (is-cell (sizeN m) c) o) in
       p .1 .superseded (ap (λ (x : TxId). x .0) (s .xmax) ∙ ap (λ (v : Version). v .xmax .0) (vacuum-row-acquired-metadata-same-but-reclaimed .cleared c i))
+
+  -- metadata_same.3: a rank of the image before is one of the image after
+  pub vacuum-row-acquired-keeps-the-rank : (v : ImageValid (imageOf m)) → (p : ℕ) → stored (imageOf m) p ≡ true → versionAt (after .cells) p .next .0 ≢ 0 → v .rank (versionAt (after .cells) p .next .0) < v .rank p
+  vacuum-row-acquired-keeps-the-rank v p st n =
+      in-or-not p (h ∷ l)
+      (λ i. in-or-not p d
+      (λ j. absurd (n (ap (λ (w : Version). w .next .0) (W.vacuum-clears-what-it-removes m row request room accepted h l d k whole dead kept p j))))
+      (λ j. falling-next (versionAt (after .cells)) (v .rank) (h ∷ k) h kept-fall (refl, along-after) p (in-left p i j) n))
+      (λ i. let e = ap (λ (w : List ℕ). versionOf w .next .0) (rest-kept .0 p i) in subst (λ (y : ℕ). v .rank y < v .rank p) (sym e) (v .falls p st (λ o. n (e ∙ o))))
+    where
+      is-stored : (c : ℕ) → In c (h ∷ l) → stored (imageOf m) c ≡ true
+      is-stored c i = holds-true _ (is-cell (sizeN m) c) (all-in (CellOf (sizeN m)) (h ∷ l) (whole .way .cells) c i)
+
+      fall : Falling (v .rank) (h ∷ l)
+      fall =
+          falling-along (versionAt (m .cells)) (v .rank) (h ∷ l) h
+          (in-all (λ c. versionAt (m .cells) c .next .0 ≢ 0 → v .rank (versionAt (m .cells) c .next .0) < v .rank c) (h ∷ l) (λ c i. v .falls c (is-stored c i)))
+          (in-all (λ c. c ≢ 0) (h ∷ l) (λ c i e. omega (arith, all-in (CellOf (sizeN m)) (h ∷ l) (whole .way .cells) c i .low, e)))
+          (refl, whole .way .along .1)
+
+      kept-fall : Falling (v .rank) (h ∷ k)
+      kept-fall = (in-all (λ c. v .rank c < v .rank h) k (λ c i. all-in (λ c. v .rank c < v .rank h) l (fall .0) c (kept-is c .0 i .0)), falling-picked (v .rank) (λ c. Reclaimable hz (versionAt (m .cells) c) → ⊥) l k kept (fall .1))
 
   -- vacuum_row_acquired.15: what is left behind the head is not eligible
   pub vacuum-row-acquired-leaves-none-eligible : (x : ℕ) → In x (reachable (imageOf after) (headAt after row)) → x ≢ headAt after row → Eligible (versionAt (after .cells) x) hz → ⊥
