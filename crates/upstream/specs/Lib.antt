@@ -31,6 +31,7 @@ pub mod Protected
 pub mod Safe
 pub mod SharedTails
 pub mod Horizons
+pub mod Witnesses
 -- the story of 001
 pub mod Story
 pub mod Native

@@ -28,8 +28,9 @@ use Rattle.rules.specs.Published.{Apart}
 use Rattle.rules.specs.CommitPublishes.{commit-moves-each-head, commit-marks-each-base, commit-links-each-new, commit-keeps-other-cells, commit-keeps-the-clock}
 use Rattle.upstream.specs.Images.{Image, imageOf, stored, Snapshot, snapshot}
 use Rattle.upstream.specs.Seen.{creatorVisible, visible, along}
-use Rattle.upstream.specs.Transactions.{valueOf}
+use Rattle.upstream.specs.Transactions.{valueOf, keyAt, storedSnapshotKey}
 use Rattle.upstream.specs.RetentionTerms.{firstSeen}
+use Rattle.upstream.specs.Chains.{first-visible-is-first-seen}
 use Rattle.upstream.specs.Protected.{sees01, sees000}
 use Rattle.upstream.specs.Story.{Layout, Distinct, write, OldReader, seeded, published, pruned, Agree}
 
@@ -142,6 +143,10 @@ module _ (see : Version → Bool) (s : Image) where
 pub record ReadsTheAnchor (see : Version → Bool) (l : Layout) (before : ℕ) (s : Image) : Type 0 where
   pub first : firstSeen see s (s .heads 0) ≡ some (l .anchor)
   pub key : valueOf (s .rows (l .anchor)) ≡ some before
+
+-- under 000's rule that is 000's `stored_snapshot_key`
+pub reads-the-anchor-is-stored-snapshot-key : (l : Layout) (before : ℕ) (s : Image) (t : Slot) → ReadsTheAnchor (sees000 (snapshot t)) l before s → storedSnapshotKey s t 0 ≡ some before
+reads-the-anchor-is-stored-snapshot-key l before s t r = ap (keyAt s) (first-visible-is-first-seen s (s .heads 0) (snapshot t) ∙ r .first) ∙ r .key
 
 -- the cells of the layout are cells of the store
 pub record Inside (n : ℕ) (l : Layout) : Type 0 where

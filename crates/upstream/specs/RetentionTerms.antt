@@ -3,7 +3,7 @@
 use Prim.Native.Nat.{ℕ, _<_, _≤_}
 use mathlib.Core.Bool.{Bool, true, cond}
 use mathlib.Core.List.{List, [], _∷_}
-use mathlib.Core.Logic.{_≢_}
+use mathlib.Core.Logic.{_≢_, _↔_}
 use mathlib.Core.Option.{Option, none, some}
 use mathlib.Core.Path.{_≡_}
 use lib.ListN.{getD}
@@ -131,8 +131,9 @@ module _ (see : Version → Bool) where
     pub next : (p : ℕ) → In p (prefix (a .image) (a .image .heads row)) → firstSeen (a .image) (a .image .heads row) ≢ some p
         → a .image .rows p .next ≡ b .image .rows p .next
 
-  -- `safe_result`, with 01's clause in place of `metadata_same`
+  -- `safe_result`, with 01's clause in place of `metadata_same`: d are the reclaimed, the newly recycled
   pub record SafeResult (a b : State) (row : ℕ) (d : List ℕ) : Type 0 where
+    pub reclaimed : (x : ℕ) → In x d ↔ Newly a b x
     pub valid : ImageValid (b .image)
     pub same : MetadataSameBut d (a .image) (b .image)
     pub first : firstSeen (a .image) (a .image .heads row) ≡ firstSeen (b .image) (b .image .heads row)

@@ -207,6 +207,7 @@ module _ {z : Sizes} (rm : Roomy z) (m : Mem z) (l : Log) (rc : Reachable m l) w
         swept-is-safe =
             let gone : (x : ℕ) → Newly (stateOf m) (stateOf after) x → In x (reachable (imageOf m) (headAt m row)) × (x ≢ headAt m row) × Eligible (versionAt (m .cells) x) hz = λ x n. W.vacuum-row-acquired-removes-eligible-only m row request room accepted h tl d k whole dead kept x .0 (newly-is-removed x .0 n) in
             record {
+              reclaimed = λ x. (newly-is-removed x .1, newly-is-removed x .0);
               valid = reachable-image-is-valid rm after log′ after-is-reachable;
               same = W.vacuum-row-acquired-metadata-same-but-reclaimed m row request room accepted h tl d k whole dead kept;
               first = W.vacuum-row-acquired-first-visible-same m row request room accepted h tl d k whole dead kept see same unseen;
@@ -248,6 +249,7 @@ module _ {z : Sizes} (rm : Roomy z) (m : Mem z) (l : Log) (rc : Reachable m l) w
           removed = [];
           result =
               record {
+                reclaimed = λ x. ((λ i. absurd i), λ n. absurd (n .1 (n .0)));
                 valid = reachable-image-is-valid rm m l rc;
                 same = record { heads = λ r. refl; capacity = refl; cells = refl; rows = λ p e n. same-data _ _ refl; cleared = λ p i. absurd i };
                 first = refl;
