@@ -117,6 +117,6 @@ unfolding run step has keep first last fold least greatest from versionOf wordsO
 part-at-the-first-xmin = (refl, refl)
 
 -- transaction 3 has written row 0: its version is locked for 3, all else of it is as it was
-pub part-at-the-base's-lock : versionAt (store .cells) 1 ≡ lockedFor (version 1 0 0 1 70 0 0) 3
+pub part-at-a-write's-lock : versionAt (store .cells) 1 ≡ lockedFor (version 1 0 0 1 70 0 0) 3
 unfolding run step has keep first last fold least greatest from versionOf wordsOf cellAt putCell words threes slotOf push opened creatorVisible visible conflict chain look occupied vacant horizonOf guard each fits storeTests slotTests freshCells created createOut idsWith beginWords beginOut own answerAt recorded sightOf ownSight readRow readEnd readOut lockBase prepared headTests writeNow writeOut markBase commitTests publish commitOut
-part-at-the-base's-lock = refl
+part-at-a-write's-lock = refl

@@ -8,7 +8,7 @@ use Rattle.rules.specs.declared.Version.{Version}
 use Rattle.rules.specs.Sizes.{Sizes}
 use Rattle.rules.specs.Versions.{versionAt}
 use Rattle.rules.specs.Slots.{Slot}
-use Rattle.rules.specs.Memory.{Mem, sizeR, sizeN, headAt}
+use Rattle.rules.specs.Memory.{Mem, sizeR, sizeN, headAt, slotAt}
 use Rattle.rules.specs.Outcome.{isCell}
 
 -- `Image`: heads by row, versions by cell, the number of rows. The cells that have a stored version are 1 to `cells`
@@ -44,6 +44,10 @@ pub record Snapshot : Type 0 where
   pub xmax : ℕ
   pub active : List ℕ
 
--- `snapshot`, of a `Transaction`, which is what a slot's words say: id, snapshot, write set, read records
+-- `Transaction` is what a slot's words say: id, snapshot, write set, read records
+abbrev pub transaction : {z : Sizes} → Mem z → ℕ → Slot
+transaction m s = slotAt m s
+
+-- `snapshot`
 abbrev pub snapshot : Slot → Snapshot
 snapshot t = record { txid = t .id; xmin = t .low; xmax = t .top; active = t .active }
