@@ -30,6 +30,7 @@ pub mod Vacuums
 pub mod Protected
 pub mod Safe
 pub mod SharedTails
+pub mod ApartWrites
 pub mod Horizons
 pub mod Witnesses
 -- the story of 001
