@@ -1,6 +1,6 @@
 -- The cells of an open write set are apart, in every reachable store: what the rules ask of a write set before they say, cell by cell, what
 -- its commit leaves (CommitPublishes.antt). So that holds of every open transaction, whatever the number of its writes.
-use Prim.Native.Nat.{ℕ, suc, _≤_, _<_}
+use Prim.Native.Nat.{ℕ, suc, _≤_}
 use mathlib.Core.List.{List, [], _∷_}
 use mathlib.Core.Path.{_≡_, refl, sym, ap, _∙_, subst}
 use mathlib.Core.Logic.{_≢_, inl, inr}
@@ -11,9 +11,9 @@ use Rattle.rules.specs.Slots.{Slot, Write}
 use Rattle.rules.specs.Memory.{Mem, headAt, slotAt}
 use Rattle.rules.specs.Abort.{news}
 use Rattle.rules.specs.Lookup.{ownRows}
-use Rattle.rules.specs.History.{Log, whoIn, rowsIn, cellsIn}
+use Rattle.rules.specs.History.{Log, whoIn, cellsIn}
 use Rattle.rules.specs.Reachable.{Reachable, chainAt, times, LockedFor}
-use Rattle.rules.specs.Exactly.{In, All}
+use Rattle.rules.specs.Exactly.{In}
 use Rattle.rules.specs.Members.{in-all}
 use Rattle.rules.specs.Published.{From, Apart}
 use Rattle.rules.specs.Theory.Cases.{byEq}
