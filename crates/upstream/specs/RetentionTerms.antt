@@ -52,7 +52,7 @@ pub record DataSame (a b : Version) : Type 0 where
   pub locked : a .locked ≡ b .locked
   pub owner : a .owner ≡ b .owner
 
--- `metadata_same`: two images agree in all but next; there is no rank
+-- `metadata_same`: two images agree in all but next. An image carries no rank; that one serves both is a lemma (Vacuums.antt)
 pub record MetadataSame (a b : Image) : Type 0 where
   pub heads : (r : ℕ) → a .heads r ≡ b .heads r
   pub capacity : a .capacity ≡ b .capacity

@@ -227,7 +227,8 @@ module _ {z : Sizes} (m : Mem z) (row request room : ℕ) (accepted : NoneOf (va
 
   -- ---- reports
 
-  -- vacuum_row_acquired.12, and once each, newest first (gap 4)
+  -- vacuum_row_acquired.12: each report is of a removed version. That each removed one is reported, once, newest first, stands in the rules
+  -- (VacuumRemoves.antt)
   pub vacuum-row-acquired-report-provenance : ReportProvenance (imageOf m) d (vacuumOut m row request room .front)
   vacuum-row-acquired-report-provenance = rw (W.vacuum-reports-each-in-chain-order m row request room accepted h l d k whole dead kept) (each d (λ x i. i))
     where
