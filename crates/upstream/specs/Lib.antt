@@ -18,6 +18,7 @@ pub mod LockTest
 -- slots and clock
 pub mod LifecycleTerms
 pub mod Lifecycle
+pub mod Clocks
 pub mod Frames
 -- publication
 pub mod Publication

@@ -7,7 +7,7 @@ use mathlib.Core.Logic.{_≢_}
 use mathlib.Core.Path.{_≡_}
 use lib.Dec.{eqb, ltb}
 use lib.ListN.{getD, length}
-use Rattle.rules.specs.Sizes.{Sizes, ID, LOW}
+use Rattle.rules.specs.Sizes.{Sizes, lastId, ID, LOW}
 use Rattle.rules.specs.Memory.{Mem, clock, slotAt}
 
 -- the id and the snapshot xmin of slot i
@@ -65,3 +65,15 @@ pub record WellFormed {z : Sizes} (m : Mem z) : Type 0 where
   pub low-first : (s : ℕ) → s < z .slots → slotAt m s .id ≢ 0 → slotAt m s .low ≤ slotAt m s .id
   pub drawn : (s : ℕ) → s < z .slots → slotAt m s .id ≢ 0 → slotAt m s .id < clock m
   pub apart : (i j : ℕ) → i < z .slots → j < z .slots → i ≢ j → slotAt m i .id ≢ 0 → slotAt m i .id ≢ slotAt m j .id
+
+-- `observation`: the clock was looked at, it has not gone back, and the slots are as they were
+pub record Observation {z : Sizes} (before after : Mem z) : Type 0 where
+  pub slots : after .slots ≡ before .slots
+  pub clock-on : clock before ≤ clock after
+  pub runs : 0 < clock after
+
+-- `reservation`, of the clock: the id is at least the clock before, below 2^64 - 1, and the clock after is one more
+pub record Reservation {z : Sizes} (before after : Mem z) (id : ℕ) : Type 0 where
+  pub drawn : clock before ≤ id
+  pub last : id < lastId
+  pub next : clock after ≡ suc id
