@@ -30,12 +30,12 @@ use super::verbs::LOOKUP;
 use super::verbs::READ;
 use super::verbs::VACUUM;
 use super::verbs::WRITE;
-use lookup::front;
-use lookup::front_mut;
 use kinds::CELL_WORDS;
 use kinds::TxId;
 use kinds::Value;
 use kinds::WIDTH;
+use lookup::front;
+use lookup::front_mut;
 
 fn create(
     lent: &[u64; WORDS],
