@@ -47,6 +47,10 @@ module _ {z : Sizes} (m : Mem z) where
   unfolding horizonOf
   vacuum-works-with-min-horizon request = least-of-two request (clock m) (occupied LOW (take (z .slots) (m .slots)))
 
+  -- 000 gives its row vacuum a horizon; here any horizon at or below the global xmin is had by requesting it
+  pub any-lower-horizon-can-be-requested : (g : ℕ) → g ≤ globalXmin → horizon m g ≡ g
+  any-lower-horizon-can-be-requested g b = omega (arith, vacuum-works-with-min-horizon g)
+
   -- public_vacuum_reclaim_once.4 and .5, run_vacuum_pass.4
   pub public-vacuum-horizon-is-at-most-the-request : (request : ℕ) → horizon m request ≤ request
   public-vacuum-horizon-is-at-most-the-request request = omega (arith, vacuum-works-with-min-horizon request)

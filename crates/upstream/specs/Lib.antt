@@ -31,6 +31,8 @@ pub mod Vacuums
 pub mod Protected
 pub mod Safe
 pub mod SharedTails
+pub mod ApartWrites
+pub mod PublishesAll
 pub mod Horizons
 pub mod Witnesses
 -- the story of 001

@@ -72,7 +72,7 @@ entry-of f R t [] w e i = absurd i
 entry-of f R t (q ∷ ws) w e (inl i) = rw i (e .0, e .1, e .2)
 entry-of f R t (q ∷ ws) w e (inr i) = entry-of f R t ws w (e .4) i
 
-new-in : (ws : List Write) (w : Write) → In w ws → In (w .new) (news ws)
+pub new-in : (ws : List Write) (w : Write) → In w ws → In (w .new) (news ws)
 new-in [] w i = i
 new-in (q ∷ ws) w (inl e) = inl (ap (λ (x : Write). x .new) e)
 new-in (q ∷ ws) w (inr i) = inr (new-in ws w i)
@@ -94,7 +94,7 @@ module _ {z : Sizes} (rm : Roomy z) (m : Mem z) (l : Log) (rc : Reachable m l) w
   -- ---- an entry of an open write set
 
   module _ (s : ℕ) (op : whoIn l s ≢ 0) (w : Write) (i : In w (slotAt m s .writes)) where
-    owns : Owner m s (whoIn l s)
+    pub owns : Owner m s (whoIn l s)
     owns = open-slot (rowsIn l) (cellsIn l) m (histOf l) so s (whoIn l s) op refl
 
     -- its row is in range, its new cell carries the writer's id and is not superseded
@@ -108,18 +108,18 @@ module _ {z : Sizes} (rm : Roomy z) (m : Mem z) (l : Log) (rc : Reachable m l) w
         let k : slotAt m s .id ≡ whoIn l s = ap (λ (t : Slot). t .id) (sym at-slot) ∙ view-id m s (whoIn l s) owns in
         (q .0, q .1 ∙ k, q .2)
 
-    new-is-a-cell : CellOf (sizeN m) (w .new)
+    pub new-is-a-cell : CellOf (sizeN m) (w .new)
     new-is-a-cell =
         let q = all-at _ (slotAt m s .writes) (all-entered (rowsIn l) (cellsIn l) m (histOf l) so s (whoIn l s) owns) w i in
         is-cell (sizeN m) (w .new) .yes (not-false _ (q .new-in))
 
     -- it is in no chain
-    new-is-unchained : (row : ℕ) → row < rowsIn l → In (w .new) (chainAt m row .cells) → ⊥
+    pub new-is-unchained : (row : ℕ) → row < rowsIn l → In (w .new) (chainAt m row .cells) → ⊥
     new-is-unchained row inR j =
         in-times (w .new) (news (slotAt m s .writes)) (new-in (slotAt m s .writes) w i)
         (chained-cell-is-nowhere-else rm m l rc row (w .new) inR (in-times (w .new) (chainAt m row .cells) j) .unwritten s (owns .slot))
 
-    head-in-chain : (row : ℕ) → row < rowsIn l → headAt m row ≢ 0 → In (headAt m row) (chainAt m row .cells)
+    pub head-in-chain : (row : ℕ) → row < rowsIn l → headAt m row ≢ 0 → In (headAt m row) (chainAt m row .cells)
     head-in-chain row inR n = first-of (versionAt (m .cells)) (chainAt m row .cells) (headAt m row) (way row inR) n
 
     -- `prepared`, where the base is the head still

@@ -2,12 +2,14 @@
 -- moved; `publication_prefix` is the image after the first so many of them.
 use Prim.Native.Nat.{ℕ, zero, suc, _<_}
 use mathlib.Core.Bool.{true, cond}
+use mathlib.Core.List.{List, [], _∷_}
 use mathlib.Core.Logic.{_≢_, _⊎_}
 use mathlib.Core.Path.{_≡_}
 use lib.Dec.{eqb}
 use Rattle.rules.specs.declared.Version.{Version}
 use Rattle.rules.specs.Versions.{withXmax, withNext, unlocked}
 use Rattle.rules.specs.Slots.{Write}
+use Rattle.rules.specs.Exactly.{In}
 use Rattle.upstream.specs.Images.{Image, ImageValid, stored}
 
 -- one version changed, the rest of the image kept
@@ -65,6 +67,19 @@ pub record SameButLock (b0 : ℕ) (a b : Image) : Type 0 where
   pub heads : (r : ℕ) → r < a .capacity → a .heads r ≡ b .heads r
   pub rows : (p : ℕ) → p ≢ b0 → a .rows p ≡ b .rows p
   pub base : b0 ≢ 0 → b .rows b0 ≡ unlocked (a .rows b0)
+  pub cells : a .cells ≡ b .cells
+  pub capacity : a .capacity ≡ b .capacity
+
+-- several writes, one after the other, each in its three phases
+unfoldable pub publishedAll : List Write → ℕ → Image → Image
+publishedAll [] id s = s
+publishedAll (w ∷ ws) id s = publishedAll ws id (publicationPrefix s w id 3)
+
+-- the same of two images, but for the lock and owner of each base
+pub record SameButLocks (ws : List Write) (a b : Image) : Type 0 where
+  pub heads : (r : ℕ) → r < a .capacity → a .heads r ≡ b .heads r
+  pub rows : (p : ℕ) → ((w : Write) → In w ws → w .base ≢ 0 → p ≢ w .base) → a .rows p ≡ b .rows p
+  pub bases : (w : Write) → In w ws → w .base ≢ 0 → b .rows (w .base) ≡ unlocked (a .rows (w .base))
   pub cells : a .cells ≡ b .cells
   pub capacity : a .capacity ≡ b .capacity
 

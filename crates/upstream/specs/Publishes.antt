@@ -28,24 +28,24 @@ use Rattle.upstream.specs.Publication.{publicationPrefix, Same, SameButL
 -- ---- phase 3, head by head and cell by cell
 
 module _ (s : Image) (w : Write) (id : ℕ) where
-  phase-3-head : (r : ℕ) → r ≡ w .row → publicationPrefix s w id 3 .heads r ≡ w .new
+  pub phase-3-head : (r : ℕ) → r ≡ w .row → publicationPrefix s w id 3 .heads r ≡ w .new
   phase-3-head r e = rw (eq-eqb r (w .row) e)
 
-  phase-3-other-head : (r : ℕ) → r ≢ w .row → publicationPrefix s w id 3 .heads r ≡ s .heads r
+  pub phase-3-other-head : (r : ℕ) → r ≢ w .row → publicationPrefix s w id 3 .heads r ≡ s .heads r
   phase-3-other-head r n = byEq (w .base) 0 (λ e. rw (ne-eqb r (w .row) n, eq-eqb (w .base) 0 e)) (λ e. rw (ne-eqb r (w .row) n, ne-eqb (w .base) 0 e))
 
-  phase-3-sizes : (publicationPrefix s w id 3 .cells ≡ s .cells) × (publicationPrefix s w id 3 .capacity ≡ s .capacity)
+  pub phase-3-sizes : (publicationPrefix s w id 3 .cells ≡ s .cells) × (publicationPrefix s w id 3 .capacity ≡ s .capacity)
   phase-3-sizes = byEq (w .base) 0 (λ e. rw (eq-eqb (w .base) 0 e) (refl, refl)) (λ e. rw (ne-eqb (w .base) 0 e) (refl, refl))
 
-  phase-3-new : w .new ≢ w .base → publicationPrefix s w id 3 .rows (w .new) ≡ withNext (s .rows (w .new)) (w .base)
+  pub phase-3-new : w .new ≢ w .base → publicationPrefix s w id 3 .rows (w .new) ≡ withNext (s .rows (w .new)) (w .base)
   phase-3-new n = byEq (w .base) 0
       (λ e. rw (eq-eqb (w .new) (w .new) refl, eq-eqb (w .base) 0 e))
       (λ e. rw (eq-eqb (w .new) (w .new) refl, ne-eqb (w .base) 0 e, ne-eqb (w .new) (w .base) n))
 
-  phase-3-base : w .new ≢ w .base → w .base ≢ 0 → publicationPrefix s w id 3 .rows (w .base) ≡ withXmax (s .rows (w .base)) id
+  pub phase-3-base : w .new ≢ w .base → w .base ≢ 0 → publicationPrefix s w id 3 .rows (w .base) ≡ withXmax (s .rows (w .base)) id
   phase-3-base n e = rw (ne-eqb (w .base) (w .new) (λ q. n (sym q)), ne-eqb (w .base) 0 e, eq-eqb (w .base) (w .base) refl)
 
-  phase-3-else : (c : ℕ) → c ≢ w .new → (w .base ≢ 0 → c ≢ w .base) → publicationPrefix s w id 3 .rows c ≡ s .rows c
+  pub phase-3-else : (c : ℕ) → c ≢ w .new → (w .base ≢ 0 → c ≢ w .base) → publicationPrefix s w id 3 .rows c ≡ s .rows c
   phase-3-else c n b = byEq (w .base) 0
       (λ e. rw (ne-eqb c (w .new) n, eq-eqb (w .base) 0 e))
       (λ e. rw (ne-eqb c (w .new) n, ne-eqb (w .base) 0 e, ne-eqb c (w .base) (b e)))

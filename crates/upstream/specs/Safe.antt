@@ -1,5 +1,6 @@
 -- 000, `vacuum_row_acquired`, of every reachable store and every open reader at once, accepted or refused: `safe_result` and
--- `prefix_preserved` under 01's rule. A reader with prepared writes is no exception, which 000's `admissible` leaves out.
+-- `prefix_preserved`, under 01's rule and under 000's own. A reader with prepared writes, which 000's `admissible` leaves out, is no
+-- exception.
 use Prim.Native.Nat.{ℕ, _<_, _≤_}
 use mathlib.Core.Bool.{Bool, true, false}
 use mathlib.Core.List.{List, [], _∷_, reverseAux}
