@@ -7,17 +7,17 @@
  * What a call answers
  *   Every call of the store returns a number: 0 is accepted, any other is a refusal, one of the fifteen below. Further answers go to
  *   out-parameters, which are the last ones. They are always written, whatever is answered: with 0 where the answer has no such number.
- *   So after a refusal a slot, an id, a cell, a key and a count are 0 (id 0 is nobody's: every call refuses it), and a kind is
- *   VIZZALUNA_NO_VERSION; and `*about` is 0 wherever a call is accepted.
+ *   So after a refusal a slot, an id, a cell, a key and a count are 0 (id 0 is nobody's: every call that takes an id refuses it),
+ *   and a kind is VIZZALUNA_NO_VERSION; and `*about` is 0 wherever a call is accepted.
  *   A refused call changes nothing in the arenas and nothing in a buffer: it can be tried again, and a refused commit stays open.
  *   The number, the out-parameters and every lent word afterwards are proved to be what the rules say, for any numbers and for any
- *   contents and counts of the arenas. Rubbish in them is no undefined behaviour: it is found where it is used, and refused
- *   (VIZZALUNA_DAMAGED). A call needs less than 16 KB of stack.
+ *   contents and counts of the arenas. Rubbish in them is no undefined behaviour: a number that leads nowhere is found where
+ *   it is used, and refused (VIZZALUNA_DAMAGED). A call needs less than 16 KB of stack.
  *
  * What is left to the caller, since no function can test it
  *   - A pointer points to as many entries as its count says, of its type, aligned as its type is. It is not null; where the count is 0
  *     it may be, and nothing is read or written through it. An out-parameter is never null.
- *   - The four arenas, a buffer and the out-parameters of one call do not overlap, and two of its out-parameters are not the same.
+ *   - The arenas, the buffers and the out-parameters of one call do not overlap.
  *   - One thread at a time uses the arenas of a store. Different stores have nothing in common.
  *   - A history is one store: it begins at an accepted vizzaluna_create, and every later call is lent the same four arenas, which nothing
  *     but the calls changes. Arenas that were changed by hand still get exact answers, but not those of a history.
@@ -172,8 +172,8 @@ uint64_t vizzaluna_begin(uint64_t *meta, size_t meta_count, const uint64_t *rows
 /* What the transaction sees in a row: its own last write, else the last commit of the row before it began.
  *   Answers   *kind: VIZZALUNA_NO_VERSION, VIZZALUNA_NO_KEY or VIZZALUNA_KEY; *key: the key, 0 where there is none.
  *   Changes   the slot: the version that was seen is recorded, once, for the commit to validate.
- *   Refuses   tests of the slot; BAD_ROW; DAMAGED (a cell number of the row's chain or of the own write); CHAIN_TOO_LONG;
- *             READ_SET_FULL. */
+ *   Refuses   tests of the slot; BAD_ROW; DAMAGED (the cell of the own write); DAMAGED (a cell number of the row's chain) or
+ *             CHAIN_TOO_LONG, whichever the walk along the chain meets first; READ_SET_FULL. */
 uint64_t vizzaluna_read(const uint64_t *meta, size_t meta_count, const uint64_t *rows, size_t rows_count, const vizzaluna_cell *cells,
                         size_t cells_count, vizzaluna_slot *slots, size_t slots_count, uint64_t slot, uint64_t id, uint64_t row,
                         uint64_t *kind, uint64_t *key, uint64_t *about);

@@ -3,6 +3,21 @@
 //! A [`Store`] owns its four arenas. [`Store::begin`] opens a [`Transaction`], which reads one snapshot whatever others commit, and which
 //! aborts when it is dropped. Several transactions are open at once, all from one thread: a `Store` is not `Sync`.
 //!
+//! ```
+//! use vizzaluna::{Seen, Store};
+//!
+//! let store = Store::new(16, 4)?;
+//! let animator = store.begin()?;
+//! animator.write(0, 70)?;
+//! animator.commit()?;
+//! let preview = store.begin()?;
+//! let animator = store.begin()?;
+//! animator.write(0, 75)?;
+//! animator.commit()?;
+//! assert_eq!(preview.read(0)?, Seen::Key(70));
+//! # Ok::<(), vizzaluna::Error>(())
+//! ```
+//!
 //! Nothing here is `unsafe` for a caller: the library takes any numbers and any contents of the arenas, and what it cannot test itself
 //! (pointers, counts, no overlap, one thread at a time) holds by the types.
 mod error;
