@@ -52,7 +52,8 @@ pub extern "C" fn vizzaluna_begin(
     slot: &mut u64,
     id: &mut u64,
 ) -> u64
-    ensures { λ a. ⌜ Began (beginOut (memIn meta rows cells slots)) a (now (slot .exit)) (now (id .exit)) (memOut meta rows cells slots) ⌝ }
+    ensures { λ a. ⌜ Began (beginOut (memIn meta rows cells slots))
+        a (now (slot .exit)) (now (id .exit)) (memOut meta rows cells slots) ⌝ }
 {
     let answer = store::begin(meta, rows, cells, slots);
     *slot = told::first(answer);
@@ -74,7 +75,8 @@ pub extern "C" fn vizzaluna_read(
     key: &mut u64,
     about: &mut u64,
 ) -> u64
-    ensures { λ a. ⌜ Read (readOut (memIn meta rows cells slots) slot id row) a (now (kind .exit)) (now (key .exit)) (now (about .exit)) (memOut meta rows cells slots) ⌝ }
+    ensures { λ a. ⌜ Read (readOut (memIn meta rows cells slots) slot id row)
+        a (now (kind .exit)) (now (key .exit)) (now (about .exit)) (memOut meta rows cells slots) ⌝ }
 {
     let answer = store::read(meta, rows, cells, slots, slot, TxId(id), row);
     *kind = told::kind(answer);
@@ -98,7 +100,8 @@ pub extern "C" fn vizzaluna_write(
     cell: &mut u64,
     about: &mut u64,
 ) -> u64
-    ensures { λ a. ⌜ Wrote (writeOut (memIn meta rows cells slots) slot id row (chosen keyed key)) a (now (cell .exit)) (now (about .exit)) (memOut meta rows cells slots) ⌝ }
+    ensures { λ a. ⌜ Wrote (writeOut (memIn meta rows cells slots) slot id row (chosen keyed key))
+        a (now (cell .exit)) (now (about .exit)) (memOut meta rows cells slots) ⌝ }
 {
     let value = told::value(keyed, key);
     let answer = store::write(meta, rows, cells, slots, slot, TxId(id), row, value);
