@@ -1,0 +1,4 @@
+pub mod Seen
+pub mod SeenLaws
+pub mod Constants
+pub mod Fifteen
