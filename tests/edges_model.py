@@ -3,8 +3,24 @@
 
     python3 tests/edges_model.py < crates/edges/stdin | cmp - crates/edges/stdout
 
-Written from paper 01 and the readings of docs/DECISIONS.md, not from the Rattle code: an independent second account of every call. The
-script language is told in crates/bench/src/script.rt."""
+Written from paper 01 and the readings of docs/DECISIONS.md, not from the Rattle code: an independent second account of every call.
+
+A line of the script is one of these; the words of an entry go by name or by number, and numbers are decimal:
+
+    case TEXT                               told as it stands
+    lend NAME COUNT ..                      how many entries are lent: meta, heads, results, wanted, cells, slots, reports
+    memory X Y                              every word of every lent entry becomes X, of the entries beyond Y
+    meta NAME V ..                          rows, cells, clock, free
+    cell C NAME V .., slot S NAME V ..      a slot's names: id, low and top (its snapshot), actives, writes, reads (its counts)
+    head ROW V .., want I V ..              heads and candidates from there on
+    open S ID LOW TOP COUNT ID ..           the first words of a slot
+    entry S I ROW BASE NEW ..               write entries from the I-th on; record S I ROW CELL XMIN .. for read records
+    heads FIRST COUNT V RISE                a series: COUNT words, the first V, each RISE more; so too wants FIRST ..,
+    cells FIRST NAME COUNT V RISE           slots FIRST NAME .., entries S FIRST NAME .., records S FIRST NAME ..
+    create N R, begin, read S ID ROW, write S ID ROW KEY, delete S ID ROW, commit S ID, abort S ID, vacuum ROW REQUEST,
+    lookup S ID KEY (over the candidates), lookup_all S ID KEY, front COUNT
+
+A call prints itself, its answer (a refusal: number and value), and each word of the memory that it changed, lent or not."""
 import sys
 
 WALK, SLOTS, WRITES, READS, ROWS, CELLS, LAST = 64, 16, 32, 128, 256, 4096, 2 ** 64 - 1
