@@ -60,12 +60,12 @@ pub fn ok(buf: &mut [u8], at: usize, ns: &[u64]) -> usize
 }
 
 // `ok`, how many, and they.
-pub fn counted(buf: &mut [u8], at: usize, ns: &[u64]) -> usize
+pub fn counted(buf: &mut [u8], at: usize, count: u64, ns: &[u64]) -> usize
     requires { ⌜ at + room (length (now ns) + 1) ≤ length (now buf) ⌝ }
-    ensures { λ r. ⌜ Laid (now (buf .entry)) (now (buf .exit)) at r (answer wOk (length (now (ns .entry)) ∷ now (ns .entry))) ⌝ }
+    ensures { λ r. ⌜ Laid (now (buf .entry)) (now (buf .exit)) at r (answer wOk (count ∷ now (ns .entry))) ⌝ }
 {
     let p = put_bytes(buf, at, b"ok");
-    let q = put_field(buf, p, ns.len() as u64);
+    let q = put_field(buf, p, count);
     let e = put_fields(buf, q, ns);
     put_bytes(buf, e, b"\r\n")
 }

@@ -1,17 +1,17 @@
 -- Laws of decimal numbers: reading goes digit by digit, spelling goes by the last digit, and what is spelled is read back.
 use Prim.Native.Nat.{ℕ, zero, suc, _+_, _*_, _-_, _/_, _%_, _^_, _<_, _≤_}
-use mathlib.Core.Bool.{Bool, true, false, not, _&&_}
+use mathlib.Core.Bool.{Bool, true, false, not, _&&_, cond}
 use mathlib.Core.List.{List, [], _∷_, _++_}
-use mathlib.Core.Option.{none, some}
+use mathlib.Core.Option.{Option, none, some}
 use mathlib.Core.Path.{_≡_, refl, sym, ap, _∙_}
 use mathlib.Core.Logic.{_≢_}
-use native.Mathlib.Nat.{le-refl, add-zero, mod-eq-of-lt, pow-suc}
+use native.Mathlib.Nat.{le-refl, add-zero, mod-eq-of-lt, pow-suc, pow-le-pow-right}
 use native.Mathlib.Numerals.{add-one}
 use native.Mathlib.Omega.{arith}
-use lib.Dec.{eqb, ltb}
+use lib.Dec.{eqb, ltb, leb}
 use lib.ListN.{length, getD, drop, set, length-append, drop-of-length-le}
 use lib.Seq.{sets, drop-cons, set-comm}
-use borrow.Author.Tests.{lt-ltb, le-ltb, le-leb, lt-leb, ne-eqb, ltb-true, ltb-false}
+use borrow.Author.Tests.{lt-ltb, le-ltb, le-leb, lt-leb, eq-eqb, ne-eqb, ltb-true, ltb-false, leb-true, eqb-false, not-true}
 use Rattle.digits.specs.Numbers.{isDigit, allDigits, leads, valueOn, readOn, numberOf, spell, most, digits}
 
 -- ---- a number is read digit by digit
@@ -254,3 +254,51 @@ pub round-trip : (n : ℕ) → n < 2 ^ 64 → numberOf (digits n) ≡ some n
 unfolding numberOf readOn
 round-trip n h =
     rw (digits-lead n h, spell-digits most n, spell-value 19 n (omega arith), lt-ltb n (2 ^ 64) h)
+
+-- ---- more than twenty digits are no number
+
+-- each further digit makes a number at least ten times larger
+grows-tenfold : (k v : ℕ) (l : List ℕ) → 10 ^ k ≤ v → 10 ^ (k + length l) ≤ valueOn v l
+unfolding valueOn
+grows-tenfold k v [] h = rw (add-zero k) h
+grows-tenfold k v (b ∷ l) h =
+    let e : k + suc (length l) ≡ suc k + length l = omega arith in
+    let m : 10 ^ suc k ≤ v * 10 + (b - 48) = rw (pow-suc 10 k) (omega arith) in
+    rw e (grows-tenfold (suc k) (v * 10 + (b - 48)) l m)
+
+-- a byte in front that is a digit and no zero
+front-digit : (b : ℕ) (l : List ℕ) → leads (b ∷ l) ≡ true → 0 < length l → allDigits (b ∷ l) ≡ true → 1 ≤ b - 48
+unfolding leads allDigits
+front-digit b [] e h d = absurd (omega arith)
+front-digit b (c ∷ l) e h d =
+    let q : b ≡ 48 → ⊥ = eqb-false b 48 (not-true (eqb b 48) e) in
+    let f : 48 ≤ b = leb-true 48 b (first-of (leb 48 b) (leb b 57) (first-of (isDigit b) (allDigits (c ∷ l)) d)) in
+    by (b - 48) refl f q
+  where
+    first-of : (t u : Bool) → (t && u) ≡ true → t ≡ true
+    first-of true u z = refl
+    first-of false u z = z
+
+    by : (n : ℕ) → b - 48 ≡ n → 48 ≤ b → (b ≡ 48 → ⊥) → 1 ≤ n
+    by zero z f q = absurd (q (omega arith))
+    by (suc n) z f q = omega arith
+
+-- a text longer than any number's digits says none
+pub too-long-for-a-number : (s : List ℕ) → most < length s → numberOf s ≡ none
+unfolding numberOf readOn valueOn
+too-long-for-a-number [] h = absurd (omega arith)
+too-long-for-a-number (b ∷ l) h = by (leads (b ∷ l)) (allDigits (b ∷ l)) refl refl
+  where
+    big : leads (b ∷ l) ≡ true → allDigits (b ∷ l) ≡ true → 2 ^ 64 ≤ valueOn 0 (b ∷ l)
+    big e d =
+        let f : 1 ≤ b - 48 = front-digit b l e (omega arith) d in
+        let m : 10 ^ 0 ≤ 0 * 10 + (b - 48) = omega arith in
+        let z : 0 + length l ≡ length l = omega arith in
+        let g : 10 ^ length l ≤ valueOn (0 * 10 + (b - 48)) l = rw z at (grows-tenfold 0 (0 * 10 + (b - 48)) l m) in
+        let p : 10 ^ most ≤ 10 ^ length l = pow-le-pow-right (omega arith) {i = most} {j = length l} (omega arith) in
+        omega arith
+
+    by : (e d : Bool) → leads (b ∷ l) ≡ e → allDigits (b ∷ l) ≡ d → numberOf (b ∷ l) ≡ none
+    by false d p q = rw p
+    by true false p q = rw (p, q)
+    by true true p q = rw (p, q, le-ltb (valueOn 0 (b ∷ l)) (2 ^ 64) (big p q))

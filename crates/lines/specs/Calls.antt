@@ -56,11 +56,12 @@ module _ (s : List ℕ) (e : ℕ) (cut : Cut s 0 e) (d : Word) (found : d ≡ wo
     unfolding call
     vacuums q = sym (arm Word.Vacuum q ∙ t .both (λ row request. Line.Vacuum row request) ∙ ap (pairOf (λ row request. Line.Vacuum row request)) is)
 
-  module _ (r : Triple) (t : Ended s e r) (x : Triple) (is : r ≡ x) where
-    pub reads : d ≡ Word.Read → threeOf (λ slot id row. Line.Read slot id row) x ≡ meaning s
-    unfolding call
-    reads q = sym (arm Word.Read q ∙ t .all (λ slot id row. Line.Read slot id row) ∙ ap (threeOf (λ slot id row. Line.Read slot id row)) is)
+-- x is what the code found after the word of a read or a find
+module _ (s : List ℕ) (at : ℕ) (r : Triple) (t : Ended s at r) (x : Triple) (is : r ≡ x) where
+  pub reads : threeOf (λ slot id row. Line.Read slot id row) x ≡ call Word.Read (rest s at)
+  unfolding call
+  reads = sym (t .all (λ slot id row. Line.Read slot id row) ∙ ap (threeOf (λ slot id row. Line.Read slot id row)) is)
 
-    pub finds : d ≡ Word.Find → threeOf (λ slot id key. Line.Find slot id key) x ≡ meaning s
-    unfolding call
-    finds q = sym (arm Word.Find q ∙ t .all (λ slot id key. Line.Find slot id key) ∙ ap (threeOf (λ slot id key. Line.Find slot id key)) is)
+  pub finds : threeOf (λ slot id key. Line.Find slot id key) x ≡ call Word.Find (rest s at)
+  unfolding call
+  finds = sym (t .all (λ slot id key. Line.Find slot id key) ∙ ap (threeOf (λ slot id key. Line.Find slot id key)) is)

@@ -3,3 +3,4 @@ pub mod Fields
 pub mod Words
 pub mod Calls
 pub mod Printed
+pub mod Longest

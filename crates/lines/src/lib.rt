@@ -3,10 +3,10 @@ use digits::Number;
 ghost use mathlib.Core.Path.{_≡_};
 ghost use Prim.Native.Nat.{_≤_};
 ghost use lib.ListN.{length};
-ghost use Rattle.lines.specs.Lines.{meaning, wordOf};
+ghost use Rattle.lines.specs.Lines.{meaning, wordOf, call};
 ghost use Rattle.lines.specs.Lines.{same as Lines·same};
 ghost use Rattle.lines.specs.Fields.{Cut, Stepped, Paired, Tripled, Ended};
-ghost use Rattle.lines.specs.Fields.{writeAt};
+ghost use Rattle.lines.specs.Fields.{writeAt, rest};
 
 // A call, with its numbers as the record gives them.
 pub enum Line {
@@ -252,6 +252,36 @@ fn three_at(s: &[u8], at: usize) -> Triple
     }
 }
 
+// A read from the end of its word on.
+fn read_at(s: &[u8], at: usize) -> Line
+    requires { ⌜ at ≤ length (now s) ⌝ }
+    ensures { λ r. ⌜ r ≡ call Word.Read (rest (now (s .entry)) at) ⌝ }
+{
+    match three_at(s, at) {
+        Triple::Are { a, b, c, end: _ } => Line::Read {
+            slot: a,
+            id: b,
+            row: c,
+        },
+        Triple::Nothing => Line::Other,
+    }
+}
+
+// A find likewise.
+fn find_at(s: &[u8], at: usize) -> Line
+    requires { ⌜ at ≤ length (now s) ⌝ }
+    ensures { λ r. ⌜ r ≡ call Word.Find (rest (now (s .entry)) at) ⌝ }
+{
+    match three_at(s, at) {
+        Triple::Are { a, b, c, end: _ } => Line::Find {
+            slot: a,
+            id: b,
+            key: c,
+        },
+        Triple::Nothing => Line::Other,
+    }
+}
+
 // The call that a record is.
 pub fn parse_line(s: &[u8]) -> Line
     ensures { λ r. ⌜ r ≡ meaning (now (s .entry)) ⌝ }
@@ -268,14 +298,7 @@ pub fn parse_line(s: &[u8]) -> Line
             }
             Line::Other
         }
-        Word::Read => match three_at(s, e) {
-            Triple::Are { a, b, c, end: _ } => Line::Read {
-                slot: a,
-                id: b,
-                row: c,
-            },
-            Triple::Nothing => Line::Other,
-        },
+        Word::Read => read_at(s, e),
         Word::Write => write_at(s, e),
         Word::Commit => match pair_at(s, e) {
             Pair::Are { a, b } => Line::Commit { slot: a, id: b },
@@ -289,14 +312,7 @@ pub fn parse_line(s: &[u8]) -> Line
             Pair::Are { a, b } => Line::Vacuum { row: a, request: b },
             Pair::Nothing => Line::Other,
         },
-        Word::Find => match three_at(s, e) {
-            Triple::Are { a, b, c, end: _ } => Line::Find {
-                slot: a,
-                id: b,
-                key: c,
-            },
-            Triple::Nothing => Line::Other,
-        },
+        Word::Find => find_at(s, e),
         Word::Other => Line::Other,
     }
 }

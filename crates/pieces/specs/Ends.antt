@@ -1,10 +1,13 @@
 -- The end of a record: the first CR that an LF follows.
-use Prim.Native.Nat.{ℕ, suc, _+_}
-use mathlib.Core.Bool.{_&&_, cond}
+use Prim.Native.Nat.{ℕ, suc}
+use mathlib.Core.Bool.{Bool, _&&_, cond}
 use mathlib.Core.List.{List, [], _∷_}
 use mathlib.Core.Option.{Option, none, some}
 use lib.Dec.{eqb}
-use Rattle.pieces.specs.declared.End.{End}
+
+-- CR and LF
+abbrev pub isEnd : ℕ → ℕ → Bool
+isEnd a b = eqb a 13 && eqb b 10
 
 -- one byte further
 abbrev pub further : Option ℕ → Option ℕ
@@ -15,9 +18,4 @@ further (some k) = some (suc k)
 unfoldable pub firstEnd : List ℕ → Option ℕ
 firstEnd [] = none
 firstEnd (a ∷ []) = none
-firstEnd (a ∷ b ∷ l) = cond (eqb a 13 && eqb b 10) (some 0) (further (firstEnd (b ∷ l)))
-
--- counted from a place, as the code answers it
-abbrev pub placed : ℕ → Option ℕ → End
-placed from none = End.Nothing
-placed from (some k) = End.At (from + k)
+firstEnd (a ∷ b ∷ l) = cond (isEnd a b) (some 0) (further (firstEnd (b ∷ l)))

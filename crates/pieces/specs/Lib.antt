@@ -1,2 +1,4 @@
 pub mod Ends
+pub mod Texts
+pub mod Held
 pub mod Laws

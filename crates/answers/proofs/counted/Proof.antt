@@ -1,8 +1,7 @@
-use native.Mathlib.Omega.{arith}
-use lib.ListN.{length}
-use mathlib.Core.List.{_∷_}
-use Rattle.answers.specs.Answers.{fields}
 use Rattle.answers.specs.Laws.{laid-length, laid-then, field-fits, list-fits, answered}
+use Rattle.answers.specs.Answers.{fields}
+use mathlib.Core.List.{_∷_}
+use native.Mathlib.Omega.{arith}
 use borrow.Author.Needs.{needs}
 use Rattle.answers.proofs.counted.Statement.{statement}
 use Rattle.answers.proofs.counted.Tie as tie
@@ -30,7 +29,7 @@ same-length c = search needs
 
 returns : tie.Need-returns
 unfolding fields
-returns c = answered (length (c .before .before .before .before .before .before .before .before .before .before .before .before .before .before .before .before .before .before .before .before .args .ns .now) ∷ c .before .before .before .before .before .before .before .before .before .before .before .before .before .before .before .before .before .before .before .before .args .ns .now) (c .before .before .before .before .before .before .before .before .before .before .before .before .before .before .before .put-bytes .ensures) (laid-then (c .before .before .before .before .before .before .before .before .before .before .before .put-field .ensures) (c .before .before .before .before .before .before .before .put-fields .ensures)) (c .before .before .put-bytes2 .ensures)
+returns c = answered (c .before .before .before .before .before .before .before .before .before .before .before .before .before .before .before .before .before .before .before .before .args .count ∷ c .before .before .before .before .before .before .before .before .before .before .before .before .before .before .before .before .before .before .before .before .args .ns .now) (c .before .before .before .before .before .before .before .before .before .before .before .before .before .before .before .put-bytes .ensures) (laid-then (c .before .before .before .before .before .before .before .before .before .before .before .put-field .ensures) (c .before .before .before .before .before .before .before .put-fields .ensures)) (c .before .before .put-bytes2 .ensures)
 
 pub counted-spec : {M : Type 1} → statement M
 counted-spec =

@@ -1,0 +1,3 @@
+pub mod Perform
+pub mod Counted
+pub mod Laws

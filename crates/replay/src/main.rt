@@ -1,0 +1,14 @@
+// The replay program: calls of the version store as records on standard input, an answer line for each. The store that it lends starts with
+// every field zero.
+use kinds::CELL_WORDS;
+use kinds::META_WORDS;
+use kinds::SLOTS;
+use kinds::WIDTH;
+
+fn main() {
+    let mut meta = [0u64; META_WORDS];
+    let mut rows = [0u64; player::ROWS];
+    let mut cells = [[0u64; CELL_WORDS]; player::CELLS];
+    let mut slots = [[0u64; WIDTH]; SLOTS];
+    player::play(&mut meta, &mut rows, &mut cells, &mut slots);
+}

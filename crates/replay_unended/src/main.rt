@@ -1,0 +1,13 @@
+// The replay program again, run on input whose last record lacks its CR LF.
+use kinds::CELL_WORDS;
+use kinds::META_WORDS;
+use kinds::SLOTS;
+use kinds::WIDTH;
+
+fn main() {
+    let mut meta = [0u64; META_WORDS];
+    let mut rows = [0u64; player::ROWS];
+    let mut cells = [[0u64; CELL_WORDS]; player::CELLS];
+    let mut slots = [[0u64; WIDTH]; SLOTS];
+    player::play(&mut meta, &mut rows, &mut cells, &mut slots);
+}
