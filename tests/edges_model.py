@@ -1,5 +1,5 @@
 #!/usr/bin/env python3
-"""What the script of crates/edges is to print, worked out from the paper's rules alone.
+"""What the script of crates/edges is to print, worked out from the rules of paper 01.
 
     python3 tests/edges_model.py < crates/edges/stdin | cmp - crates/edges/stdout
 

@@ -67,6 +67,9 @@ pub fn place(name: &[u8], names: &[u8]) -> Number {
     let mut at = 0;
     let mut k = 0;
     while k < names.len() {
+        if at >= names.len() {
+            return Number::Nothing;
+        }
         let end = upto(names, at, BLANK);
         if same(name, part(names, at, end)) {
             return Number::Is(k as u64);

@@ -3,8 +3,6 @@ use lib.ListN.{length}
 use Prim.Native.Nat.{_-_}
 use Rattle.bench.proofs.answer.say_front.Statement.{statement}
 use Rattle.bench.proofs.answer.say_front.Tie as tie
-use Rattle.bench.proofs.text.say.Reads as say-reads
-use Rattle.bench.proofs.text.say_number.Reads as say-number-reads
 
 abbrev Inv-loop : tie.InvT-loop
 Inv-loop front i₀ t5 i = Unit {0}

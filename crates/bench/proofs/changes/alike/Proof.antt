@@ -3,8 +3,6 @@ use lib.ListN.{length}
 use Prim.Native.Nat.{_-_}
 use Rattle.bench.proofs.changes.alike.Statement.{statement}
 use Rattle.bench.proofs.changes.alike.Tie as tie
-use Rattle.bench.proofs.changes.at.Reads as at-reads
-use Rattle.bench.proofs.changes.goes_on.Reads as goes-on-reads
 
 abbrev Inv-loop : tie.InvT-loop
 Inv-loop before now i rise j₀ j = Unit {0}

@@ -3,11 +3,6 @@ use lib.ListN.{length}
 use Prim.Native.Nat.{_-_}
 use Rattle.bench.proofs.changes.tell.Statement.{statement}
 use Rattle.bench.proofs.changes.tell.Tie as tie
-use Rattle.bench.proofs.changes.alike.Reads as alike-reads
-use Rattle.bench.proofs.changes.at.Reads as at-reads
-use Rattle.bench.proofs.changes.later.Reads as later-reads
-use Rattle.bench.proofs.changes.rise_of.Reads as rise-of-reads
-use Rattle.bench.proofs.changes.say_run.Reads as say-run-reads
 
 abbrev Inv-loop : tie.InvT-loop
 Inv-loop before now kind which rise i₀ i = Unit {0}

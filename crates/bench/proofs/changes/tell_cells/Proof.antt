@@ -2,8 +2,6 @@ use borrow.Author.Needs.{needs}
 use Prim.Native.Nat.{_-_}
 use Rattle.bench.proofs.changes.tell_cells.Statement.{statement}
 use Rattle.bench.proofs.changes.tell_cells.Tie as tie
-use Rattle.bench.proofs.changes.cell_words.Reads as cell-words-reads
-use Rattle.bench.proofs.changes.tell_column.Reads as tell-column-reads
 
 abbrev Inv-loop : tie.InvT-loop
 Inv-loop before now was₀ is₀ k₀ was is k = Unit {0}

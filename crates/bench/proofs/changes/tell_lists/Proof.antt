@@ -2,7 +2,6 @@ use borrow.Author.Needs.{needs}
 use Prim.Native.Nat.{_-_}
 use Rattle.bench.proofs.changes.tell_lists.Statement.{statement}
 use Rattle.bench.proofs.changes.tell_lists.Tie as tie
-use Rattle.bench.proofs.changes.tell.Reads as tell-reads
 
 abbrev Inv-loop : tie.InvT-loop
 Inv-loop before now a₀ a = Unit {0}

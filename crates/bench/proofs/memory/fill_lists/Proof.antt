@@ -2,8 +2,6 @@ use borrow.Author.Needs.{needs}
 use Prim.Native.Nat.{_-_}
 use Rattle.bench.proofs.memory.fill_lists.Statement.{statement}
 use Rattle.bench.proofs.memory.fill_lists.Tie as tie
-use Rattle.bench.proofs.memory.cut.Reads as cut-reads
-use Rattle.bench.proofs.memory.fill_list.Reads as fill-list-reads
 
 abbrev Inv-loop : tie.InvT-loop
 Inv-loop words₀ x y a₀ words a = Unit {0}

@@ -2,8 +2,6 @@ use borrow.Author.Needs.{needs}
 use Prim.Native.Nat.{_-_}
 use Rattle.bench.proofs.pokes.put_named.Statement.{statement}
 use Rattle.bench.proofs.pokes.put_named.Tie as tie
-use Rattle.bench.proofs.pokes.put.Reads as put-reads
-use Rattle.bench.proofs.pokes.spot_of.Reads as spot-of-reads
 
 abbrev Inv-loop : tie.InvT-loop
 Inv-loop words₀ cells₀ slots₀ at args from to i₀ words cells slots i = Unit {0}

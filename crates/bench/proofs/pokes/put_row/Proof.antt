@@ -2,9 +2,6 @@ use borrow.Author.Needs.{needs}
 use Prim.Native.Nat.{_-_}
 use Rattle.bench.proofs.pokes.put_row.Statement.{statement}
 use Rattle.bench.proofs.pokes.put_row.Tie as tie
-use Rattle.bench.proofs.pokes.Spot.on.Reads as on-reads
-use Rattle.bench.proofs.pokes.put.Reads as put-reads
-use Rattle.bench.proofs.pokes.spot_of.Reads as spot-of-reads
 
 abbrev Inv-loop : tie.InvT-loop
 Inv-loop words₀ cells₀ slots₀ args from to at₀ i₀ words cells slots at i = Unit {0}

@@ -1,9 +1,6 @@
 use borrow.Author.Needs.{needs}
 use Rattle.bench.proofs.pokes.put_series.Statement.{statement}
 use Rattle.bench.proofs.pokes.put_series.Tie as tie
-use Rattle.bench.proofs.pokes.Spot.on.Reads as on-reads
-use Rattle.bench.proofs.pokes.put.Reads as put-reads
-use Rattle.std.proofs.num.wrapping_add_u64.Reads as wrapping-add-u64-reads
 
 abbrev Inv-loop : tie.InvT-loop
 Inv-loop words₀ cells₀ slots₀ step count value rise at₀ v₀ left₀ words cells slots at v left = Unit {0}

@@ -1,10 +1,6 @@
 use borrow.Author.Needs.{needs}
 use Rattle.bench.proofs.script.run.Statement.{statement}
 use Rattle.bench.proofs.script.run.Tie as tie
-use Rattle.bench.proofs.script.line.Reads as line-reads
-use Rattle.bench.proofs.text.after.Reads as after-reads
-use Rattle.bench.proofs.text.part.Reads as part-reads
-use Rattle.bench.proofs.text.upto.Reads as upto-reads
 
 abbrev Inv-loop : tie.InvT-loop
 Inv-loop words₀ cells₀ slots₀ reports₀ script at₀ left₀ words cells slots reports at left = Unit {0}

@@ -3,10 +3,6 @@ use lib.ListN.{length}
 use Prim.Native.Nat.{_-_}
 use Rattle.bench.proofs.text.place.Statement.{statement}
 use Rattle.bench.proofs.text.place.Tie as tie
-use Rattle.bench.proofs.text.after.Reads as after-reads
-use Rattle.bench.proofs.text.part.Reads as part-reads
-use Rattle.bench.proofs.text.same.Reads as same-reads
-use Rattle.bench.proofs.text.upto.Reads as upto-reads
 
 abbrev Inv-loop : tie.InvT-loop
 Inv-loop name names at₀ k₀ at k = Unit {0}
@@ -17,6 +13,9 @@ abbrev μ-loop : tie.MeasureT-loop
 loop-holds : tie.Need-loop-holds Inv-loop μ-loop
 loop-holds c = tt
 
+returns : tie.Need-returns Inv-loop μ-loop
+returns c = search needs
+
 upto-requires : tie.Need-upto-requires Inv-loop μ-loop
 upto-requires c κs = search needs
 
@@ -26,8 +25,8 @@ part-requires c κs = search needs
 same-requires : tie.Need-same-requires Inv-loop μ-loop
 same-requires c κs = search needs
 
-returns : tie.Need-returns Inv-loop μ-loop
-returns c = search needs
+returns-2 : tie.Need-returns-2 Inv-loop μ-loop
+returns-2 c = search needs
 
 after-requires : tie.Need-after-requires Inv-loop μ-loop
 after-requires c κs = search needs
@@ -41,8 +40,8 @@ loop-less c = search needs
 loop-again : tie.Need-loop-again Inv-loop μ-loop
 loop-again c = tt
 
-returns-2 : tie.Need-returns-2 Inv-loop μ-loop
-returns-2 c = search needs
+returns-3 : tie.Need-returns-3 Inv-loop μ-loop
+returns-3 c = search needs
 
 pub place-spec : {M : Type 1} → statement M
 place-spec =
@@ -51,12 +50,13 @@ place-spec =
     Inv-loop
     μ-loop
     loop-holds
+    returns
     upto-requires
     part-requires
     same-requires
-    returns
+    returns-2
     after-requires
     add-k
     loop-less
     loop-again
-    returns-2)
+    returns-3)

@@ -2,10 +2,6 @@ use borrow.Author.Needs.{needs}
 use Prim.Native.Nat.{_-_}
 use Rattle.bench.proofs.text.say_name.Statement.{statement}
 use Rattle.bench.proofs.text.say_name.Tie as tie
-use Rattle.bench.proofs.text.after.Reads as after-reads
-use Rattle.bench.proofs.text.part.Reads as part-reads
-use Rattle.bench.proofs.text.say.Reads as say-reads
-use Rattle.bench.proofs.text.upto.Reads as upto-reads
 
 abbrev Inv-loop : tie.InvT-loop
 Inv-loop names number at₀ k₀ t5 at k = Unit {0}

@@ -2,10 +2,6 @@ use borrow.Author.Needs.{needs}
 use Prim.Native.Nat.{_-_}
 use Rattle.bench.proofs.verbs.numbers.Statement.{statement}
 use Rattle.bench.proofs.verbs.numbers.Tie as tie
-use Rattle.bench.proofs.text.after.Reads as after-reads
-use Rattle.bench.proofs.text.part.Reads as part-reads
-use Rattle.bench.proofs.text.upto.Reads as upto-reads
-use Rattle.bench.proofs.verbs.number.Reads as number-reads
 
 abbrev Inv-loop : tie.InvT-loop
 Inv-loop s from verb args₀ at₀ n₀ args at n = Unit {0}
