@@ -6,11 +6,11 @@ use lib.ListN.{set}
 use lib.Seq.{set-getD}
 use borrow.Author.Tests.{le-leb, lt-leb}
 use Rattle.kinds.specs.declared.ReadAnswer.{ReadAnswer}
-use Rattle.kinds.specs.Sizes.{Sizes}
+use Rattle.words.specs.Sizes.{Sizes}
 use Rattle.rules.specs.Numbers.{badRow}
-use Rattle.kinds.specs.Lists.{fold}
+use Rattle.words.specs.Lists.{fold}
 use Rattle.kinds.specs.Versions.{versionAt}
-use Rattle.kinds.specs.Slots.{Rec, addRec}
+use Rattle.words.specs.Slots.{Rec, addRec}
 use Rattle.rules.specs.Memory.{Mem, mem, sizeR, wordsAt, slotAt}
 use Rattle.rules.specs.Outcome.{Outcome, out, guard, refuseRead, slotTests, rowTest}
 use Rattle.rules.specs.Verdicts.{guard-append}

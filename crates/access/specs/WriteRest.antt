@@ -13,10 +13,10 @@ use Rattle.kinds.specs.declared.Cell.{Cell}
 use Rattle.kinds.specs.declared.Answer.{Answer}
 use Rattle.kinds.specs.declared.Answer.the-variants.{Done, Wrote}
 use Rattle.kinds.specs.declared.Verdict.{Verdict}
-use Rattle.kinds.specs.Sizes.{Sizes, FREE, WRITES}
+use Rattle.words.specs.Sizes.{Sizes, FREE, WRITES}
 use Rattle.rules.specs.Numbers.{badRow, damaged}
 use Rattle.kinds.specs.Versions.{at, withValue, newVersion, versionAt, linkAt, putVersion, putCell}
-use Rattle.kinds.specs.Slots.{Write, write, addWrite}
+use Rattle.words.specs.Slots.{Write, write, addWrite}
 use Rattle.rules.specs.Memory.{Mem, mem, sizeR, sizeN, free, headAt, wordsAt, slotAt}
 use Rattle.rules.specs.Outcome.{Outcome, out, test, guard, refuse, slotTests, rowTest, isCell}
 use Rattle.rules.specs.Verdicts.{verdict, guard-fine, guard-refused, guard-append}

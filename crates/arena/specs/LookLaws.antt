@@ -7,8 +7,8 @@ use mathlib.Core.Logic.{_≢_}
 use native.Mathlib.Omega.{arith}
 use borrow.Author.Tests.{ne-eqb, lt-ltb, le-ltb}
 use Rattle.kinds.specs.declared.Version.{Version}
-use Rattle.kinds.specs.Lists.{first}
-use Rattle.kinds.specs.Slots.{Slot}
+use Rattle.words.specs.Lists.{first}
+use Rattle.words.specs.Slots.{Slot}
 use Rattle.kinds.specs.Visible.{visible}
 use Rattle.rules.specs.Chain.{found, nothing, tooLong, harmed, chain, look}
 

@@ -1,18 +1,18 @@
 // The arena of cells: a version read and stored whole, the walk along a chain, the free list.
-use kinds::CELL_WORDS;
 use kinds::Cell;
-use kinds::FREE;
-use kinds::TxId;
 use kinds::Version;
-use kinds::WALK;
-use kinds::WIDTH;
+use words::CELL_WORDS;
+use words::FREE;
+use words::TxId;
+use words::WALK;
+use words::WIDTH;
 ghost use mathlib.Core.Path.{_≡_};
 ghost use Prim.Native.Nat.{_≤_};
 ghost use lib.ListN.{length, getD, set};
-ghost use Rattle.kinds.specs.Sizes.{base, metaWords};
-ghost use Rattle.kinds.specs.Sizes as words;
+ghost use Rattle.words.specs.Sizes.{base, metaWords};
+ghost use Rattle.words.specs.Sizes as words;
 ghost use Rattle.kinds.specs.Versions.{emptyVersion, versionOf, wordsOf, versionAt, linkAt, putCell, putVersion};
-ghost use Rattle.kinds.specs.Slots.{slotOf};
+ghost use Rattle.words.specs.Slots.{slotOf};
 ghost use Rattle.rules.specs.Chain.{look};
 ghost use Rattle.rules.specs.Theory.CellLaws.{HasCell};
 ghost use Rattle.arena.specs.Sights.{sighted};

@@ -30,12 +30,12 @@ use super::verbs::LOOKUP;
 use super::verbs::READ;
 use super::verbs::VACUUM;
 use super::verbs::WRITE;
-use kinds::CELL_WORDS;
-use kinds::TxId;
 use kinds::Value;
-use kinds::WIDTH;
 use lookup::front;
 use lookup::front_mut;
+use words::CELL_WORDS;
+use words::TxId;
+use words::WIDTH;
 
 fn create(
     lent: &[u64; WORDS],

@@ -10,12 +10,12 @@ use super::memory::WORDS;
 use super::text::say;
 use super::text::say_name;
 use super::text::say_number;
-use kinds::ACTIVE;
-use kinds::CELL_WORDS;
-use kinds::READS;
-use kinds::WIDTH;
-use kinds::WRITES;
 use std::num::wrapping_add_u64;
+use words::ACTIVE;
+use words::CELL_WORDS;
+use words::READS;
+use words::WIDTH;
+use words::WRITES;
 ghost use Prim.Native.Nat.{_≤_};
 
 // What is compared: a list of words (by its number), one word of all cells (by its place), a slot (by its number), one word of all

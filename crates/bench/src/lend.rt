@@ -1,6 +1,6 @@
 // The lent part of an arena of entries: its front, the whole where more is said to be lent than there is.
-use kinds::CELL_WORDS;
-use kinds::WIDTH;
+use words::CELL_WORDS;
+use words::WIDTH;
 
 pub fn cells_front<'a>(cells: &'a [[u64; CELL_WORDS]], count: u64) -> &'a [[u64; CELL_WORDS]] {
     if count > cells.len() as u64 {

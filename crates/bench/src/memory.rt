@@ -1,6 +1,6 @@
 // The arenas of the bench, each longer than any store asks: cells, slots, reports, and five lists of words side by side.
-use kinds::CELL_WORDS;
-use kinds::WIDTH;
+use words::CELL_WORDS;
+use words::WIDTH;
 ghost use Prim.Native.Nat.{_≤_};
 
 pub const CELLS: usize = 4100;

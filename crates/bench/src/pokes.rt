@@ -25,13 +25,13 @@ use super::verbs::NAMED_META;
 use super::verbs::OPEN;
 use super::verbs::RECORD;
 use super::verbs::WANT;
-use kinds::CELL_WORDS;
-use kinds::LAST_ID;
-use kinds::READS;
-use kinds::WIDTH;
-use kinds::WRITES;
 use std::num::wrapping_add_u64;
 use std::num::wrapping_sub_u64;
+use words::CELL_WORDS;
+use words::LAST_ID;
+use words::READS;
+use words::WIDTH;
+use words::WRITES;
 
 // The kinds of arena that a line reaches.
 const IN_LISTS: u64 = 0;

@@ -22,8 +22,8 @@ use super::verbs::MEMORY;
 use super::verbs::numbers;
 use super::verbs::verb_of;
 use digits::Number;
-use kinds::CELL_WORDS;
-use kinds::WIDTH;
+use words::CELL_WORDS;
+use words::WIDTH;
 
 // The call, and what it changed.
 fn act(

@@ -5,8 +5,8 @@ use super::text::part;
 use super::text::place;
 use super::text::upto;
 use digits::Number;
-use kinds::READS;
-use kinds::WRITES;
+use words::READS;
+use words::WRITES;
 
 // Numbers of a line at most.
 pub const ARGS: usize = 24;

@@ -6,8 +6,8 @@ use mathlib.Core.List.{List, [], _∷_}
 use mathlib.Core.Path.{_≡_, refl, sym, ap, _∙_}
 use lib.ListN.{length, getD, set, length-set}
 use lib.Seq.{sets, getD-set-same, getD-set-other}
-use Rattle.kinds.specs.Sizes.{base, FREE}
-use Rattle.kinds.specs.Lists.{fold}
+use Rattle.words.specs.Sizes.{base, FREE}
+use Rattle.words.specs.Lists.{fold}
 use Rattle.kinds.specs.Versions.{emptyVersion, putCell}
 use Rattle.rules.specs.Memory.{mem}
 use Rattle.rules.specs.Abort.{giveBack}

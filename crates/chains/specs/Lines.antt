@@ -14,7 +14,7 @@ use Rattle.kinds.specs.declared.Version.{Version}
 use Rattle.kinds.specs.Versions.{versionAt}
 use Rattle.rules.specs.Chain.{ends, goesOn, broken, Chain, chained, chain}
 use Rattle.rules.specs.Theory.Cases.{byBool, byEq}
-use Rattle.kinds.specs.Lists.{keep}
+use Rattle.words.specs.Lists.{keep}
 use Rattle.rules.specs.Theory.CellLaws.{HasCell}
 use Rattle.rules.specs.Theory.Bridge.{AllCells}
 use Rattle.rules.specs.Theory.Counting.{cnt, cnt-other}

@@ -9,7 +9,7 @@ use mathlib.Core.Path.{_≡_, refl, ap, _∙_}
 use lib.ListN.{length}
 use Rattle.kinds.specs.declared.Cell.{Cell}
 use Rattle.kinds.specs.declared.Version.{Version}
-use Rattle.kinds.specs.Lists.{keep}
+use Rattle.words.specs.Lists.{keep}
 use Rattle.kinds.specs.Versions.{withNext, versionAt, linkAt, putVersion}
 use Rattle.rules.specs.Vacuum.{relink}
 use Rattle.kinds.specs.Versions.{reclaimable}

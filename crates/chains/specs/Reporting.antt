@@ -10,7 +10,7 @@ use mir.Val.{boolByte}
 use lib.ListN.{length, set, length-set}
 use lib.Seq.{sets}
 use Rattle.kinds.specs.declared.Version.{Version}
-use Rattle.kinds.specs.Lists.{keep}
+use Rattle.words.specs.Lists.{keep}
 use Rattle.kinds.specs.Versions.{versionAt}
 use Rattle.rules.specs.Vacuum.{reportOf, reports}
 use Rattle.kinds.specs.Versions.{reclaimable}

@@ -9,7 +9,7 @@ use mathlib.Core.Path.{_≡_, refl, sym, ap}
 use mir.Val.{boolByte}
 use lib.ListN.{length}
 use Rattle.kinds.specs.declared.Version.{Version}
-use Rattle.kinds.specs.Lists.{keep}
+use Rattle.words.specs.Lists.{keep}
 use Rattle.kinds.specs.Versions.{versionAt}
 use Rattle.rules.specs.Chain.{After, ends, goesOn, broken, Chain, chain}
 use Rattle.kinds.specs.Versions.{reclaimable}

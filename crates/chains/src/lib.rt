@@ -1,8 +1,8 @@
 // The loops of a row's vacuum: the chain behind the head is judged, its reclaimable versions are reported, what stays is linked anew,
 // and the reported cells are given back. The judge looks at any memory; the others ask for what its verdict has shown.
-use kinds::CELL_WORDS;
 use kinds::Cell;
 use kinds::Version;
+use words::CELL_WORDS;
 ghost use mathlib.Core.Bool.{Bool, true, not, cond};
 ghost use mathlib.Core.List.{List, [], _∷_};
 ghost use mathlib.Core.Path.{_≡_};
@@ -10,8 +10,8 @@ ghost use mir.Val.{boolByte};
 ghost use Prim.Native.Nat.{ℕ, _+_, _≤_, _<_};
 ghost use lib.ListN.{length, set};
 ghost use lib.Seq.{sets};
-ghost use Rattle.kinds.specs.Sizes.{base, metaWords};
-ghost use Rattle.kinds.specs.Lists.{keep, fold};
+ghost use Rattle.words.specs.Sizes.{base, metaWords};
+ghost use Rattle.words.specs.Lists.{keep, fold};
 ghost use Rattle.kinds.specs.Versions.{withNext, versionAt, putVersion};
 ghost use Rattle.rules.specs.Memory.{mem};
 ghost use Rattle.rules.specs.Chain.{chain};

@@ -5,8 +5,8 @@ use bench::LISTS;
 use bench::REPORTS;
 use bench::SLOTS;
 use bench::WORDS;
-use kinds::CELL_WORDS;
-use kinds::WIDTH;
+use words::CELL_WORDS;
+use words::WIDTH;
 
 const LONGEST: usize = 400000;
 

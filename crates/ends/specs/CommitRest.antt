@@ -6,8 +6,8 @@ use lib.ListN.{set}
 use Rattle.kinds.specs.declared.Answer.{Answer}
 use Rattle.kinds.specs.declared.Answer.the-variants.{Done}
 use Rattle.kinds.specs.declared.Verdict.{Verdict}
-use Rattle.kinds.specs.Sizes.{Sizes}
-use Rattle.kinds.specs.Slots.{emptied}
+use Rattle.words.specs.Sizes.{Sizes}
+use Rattle.words.specs.Slots.{emptied}
 use Rattle.rules.specs.Memory.{Mem, mem, slotAt, withSlot}
 use Rattle.rules.specs.Outcome.{Outcome, out, guard, refuse, slotTests}
 use Rattle.rules.specs.Verdicts.{verdict, guard-append, guard-fine, guard-refused}

@@ -1,15 +1,15 @@
 // The two ends of a transaction whose slot was tested: commit and abort. Every test comes before the first store.
 use kinds::Answer;
-use kinds::CELL_WORDS;
-use kinds::TxId;
 use kinds::Verdict;
-use kinds::WIDTH;
+use words::CELL_WORDS;
+use words::TxId;
+use words::WIDTH;
 ghost use mathlib.Core.List.{[]};
 ghost use mathlib.Core.Path.{_≡_};
 ghost use Prim.Native.Nat.{_<_};
 ghost use lib.ListN.{length, set};
-ghost use Rattle.kinds.specs.Sizes.{base};
-ghost use Rattle.kinds.specs.Slots.{emptied};
+ghost use Rattle.words.specs.Sizes.{base};
+ghost use Rattle.words.specs.Slots.{emptied};
 ghost use Rattle.rules.specs.Memory.{mem};
 ghost use Rattle.rules.specs.Outcome.{out};
 ghost use Rattle.rules.specs.Lent.{memIn, memOut};

@@ -11,10 +11,10 @@ use lib.Seq.{take-suc-set}
 use lib.Dec.{leb}
 use borrow.Author.Tests.{leb-false}
 use Rattle.kinds.specs.declared.Version.{Version}
-use Rattle.kinds.specs.Sizes.{base, READS}
-use Rattle.kinds.specs.Lists.{fold}
+use Rattle.words.specs.Sizes.{base, READS}
+use Rattle.words.specs.Lists.{fold}
 use Rattle.kinds.specs.Versions.{versionAt}
-use Rattle.kinds.specs.Slots.{Write, Rec, rec, Slot, slotOf, addRec, addRecs}
+use Rattle.words.specs.Slots.{Write, Rec, rec, Slot, slotOf, addRec, addRecs}
 use Rattle.rules.specs.Memory.{Mem, sizeN, headAt}
 use Rattle.kinds.specs.Visible.{visible, creatorVisible}
 use Rattle.rules.specs.Chain.{look}

@@ -10,15 +10,15 @@ use lib.Seq.{drop-cons, getD-set-same, getD-set-other}
 use lib.Dec.{eqb, leb}
 use borrow.Author.Tests.{eq-eqb, ne-eqb, lt-leb}
 use Rattle.kinds.specs.declared.Verdict.the-variants.{Fine, Refused}
-use Rattle.kinds.specs.Sizes.{base}
+use Rattle.words.specs.Sizes.{base}
 use Rattle.rules.specs.Numbers.{badRow, damaged}
-use Rattle.kinds.specs.Lists.{has, fold, nonzero}
-use Rattle.kinds.specs.Slots.{write, threes}
+use Rattle.words.specs.Lists.{has, fold, nonzero}
+use Rattle.words.specs.Slots.{write, threes}
 use Rattle.rules.specs.Outcome.{Test, test, each}
 use Rattle.rules.specs.Verdicts.{verdict, verdict-none, verdict-each}
 use Rattle.rules.specs.Lookup.{ownRows}
 use Rattle.rules.specs.Theory.Cases.{byBool, byEq}
-use Rattle.kinds.specs.WordLaws.{threes-step, threes-done}
+use Rattle.words.specs.WordLaws.{threes-step, threes-done}
 
 -- rows that no store has are passed over
 unfoldable pub marked : ℕ → List ℕ → List ℕ

@@ -8,10 +8,10 @@ use native.Mathlib.Numerals.{add-one}
 use lib.ListN.{getD, set}
 use lib.Dec.{leb}
 use Rattle.kinds.specs.declared.Version.{Version}
-use Rattle.kinds.specs.Sizes.{base}
+use Rattle.words.specs.Sizes.{base}
 use Rattle.rules.specs.Numbers.{resultFull}
-use Rattle.kinds.specs.Lists.{keep, fold, from, nonzero}
-use Rattle.kinds.specs.Slots.{Rec, slotOf, addRec, addRecs}
+use Rattle.words.specs.Lists.{keep, fold, from, nonzero}
+use Rattle.words.specs.Slots.{Rec, slotOf, addRec, addRecs}
 use Rattle.rules.specs.Read.{answerAt, Sight, blocked, sees, readRow}
 use Rattle.rules.specs.Lookup.{isKey}
 use Rattle.rules.specs.Theory.Cases.{byBool}

@@ -1,24 +1,24 @@
 // The rows of a lookup: which are read, and what reading them one by one comes to. Nothing lent by a caller is written here: records
 // go into a copy of the slot and rows into a list beside it, so that a lookup refused late has changed nothing.
-use kinds::BAD_ROW;
-use kinds::CELL_WORDS;
 use kinds::Cell;
-use kinds::DAMAGED;
-use kinds::MOST_ROWS;
-use kinds::MOST_WRITES;
-use kinds::RESULT_FULL;
 use kinds::Verdict;
-use kinds::WIDTH;
-use kinds::WRITES;
 use reads::Sight;
+use words::BAD_ROW;
+use words::CELL_WORDS;
+use words::DAMAGED;
+use words::MOST_ROWS;
+use words::MOST_WRITES;
+use words::RESULT_FULL;
+use words::WIDTH;
+use words::WRITES;
 ghost use mathlib.Core.Path.{_≡_};
 ghost use mathlib.Core.Bool.{cond};
 ghost use Prim.Native.Nat.{_≤_, _<_};
 ghost use lib.ListN.{length, getD};
-ghost use Rattle.kinds.specs.Sizes.{base};
-ghost use Rattle.kinds.specs.Lists.{fold, keep, from, nonzero};
+ghost use Rattle.words.specs.Sizes.{base};
+ghost use Rattle.words.specs.Lists.{fold, keep, from, nonzero};
 ghost use Rattle.kinds.specs.Versions.{versionAt};
-ghost use Rattle.kinds.specs.Slots.{slotOf};
+ghost use Rattle.words.specs.Slots.{slotOf};
 ghost use Rattle.rules.specs.Outcome.{each};
 ghost use Rattle.rules.specs.Verdicts.{verdict};
 ghost use Rattle.rules.specs.Read.{answerAt};
@@ -54,7 +54,7 @@ pub fn mark_all(marks: &mut [u64; MOST_ROWS], candidates: &[u64])
 pub fn mark_own(marks: &mut [u64; MOST_ROWS], slot: &[u64; WIDTH])
     ensures { λ _. ⌜ now (marks .exit) ≡ fold marked (ownRows (slotOf base (now (slot .entry)) .writes)) (now (marks .entry)) ⌝ }
 {
-    let mut left = kinds::at_most(slot[WRITES], MOST_WRITES as u64);
+    let mut left = words::at_most(slot[WRITES], MOST_WRITES as u64);
     let mut e = WRITES + 1;
     while left > 0 {
         mark(marks, slot[e]);
@@ -84,7 +84,7 @@ pub fn check_candidates(candidates: &[u64], r: u64) -> Verdict
 pub fn check_own(slot: &[u64; WIDTH], r: u64) -> Verdict
     ensures { λ v. ⌜ v ≡ verdict (each (ownRowTest r) (ownRows (slotOf base (now (slot .entry)) .writes))) ⌝ }
 {
-    let mut rest = kinds::at_most(slot[WRITES], MOST_WRITES as u64);
+    let mut rest = words::at_most(slot[WRITES], MOST_WRITES as u64);
     let mut at = WRITES + 1;
     while rest > 0 {
         if r <= slot[at] {

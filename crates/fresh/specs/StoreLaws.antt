@@ -10,9 +10,9 @@ use lib.ListN.{length, set, replicate, getD, drop, length-drop, length-replicate
 use lib.Seq.{sets, set-out, drop-cons}
 use lib.Dec.{eqb, leb, eqb·suc-zero}
 use borrow.Author.Tests.{le-leb, lt-leb}
-use Rattle.kinds.specs.Sizes.{Sizes}
+use Rattle.words.specs.Sizes.{Sizes}
 use Rattle.kinds.specs.Versions.{emptyVersion, wordsOf}
-use Rattle.kinds.specs.Slots.{emptied}
+use Rattle.words.specs.Slots.{emptied}
 use Rattle.rules.specs.Create.{freshCells}
 
 module _ {A : Type 0} where

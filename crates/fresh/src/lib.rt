@@ -1,15 +1,15 @@
 // What an accepted creation stores, arena by arena. A longer arena keeps its rest; of a shorter one what is there is stored.
-use kinds::CELL_WORDS;
-use kinds::META_WORDS;
-use kinds::SLOTS;
-use kinds::WIDTH;
+use words::CELL_WORDS;
+use words::META_WORDS;
+use words::SLOTS;
+use words::WIDTH;
 ghost use mathlib.Core.Path.{_≡_};
 ghost use mathlib.Core.List.{[], _∷_};
 ghost use Prim.Native.Nat.{min};
 ghost use lib.ListN.{replicate};
 ghost use lib.Seq.{sets};
-ghost use Rattle.kinds.specs.Sizes.{base};
-ghost use Rattle.kinds.specs.Slots.{emptied};
+ghost use Rattle.words.specs.Sizes.{base};
+ghost use Rattle.words.specs.Slots.{emptied};
 ghost use Rattle.rules.specs.Create.{freshCells};
 ghost use Rattle.fresh.specs.StoreLaws.{linkAfter};
 

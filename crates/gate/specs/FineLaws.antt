@@ -11,7 +11,7 @@ use lib.Dec.{eqb, ltb, leb}
 use borrow.Author.Tests.{leb-true, leb-false, ltb-false, eqb-true, eqb-false, not-false}
 use Rattle.kinds.specs.declared.Verdict.{Verdict}
 use Rattle.kinds.specs.declared.Verdict.the-variants.{Fine, Refused}
-use Rattle.kinds.specs.Sizes.{Sizes, metaWords, ID, ACTIVE, WRITES, READS}
+use Rattle.words.specs.Sizes.{Sizes, metaWords, ID, ACTIVE, WRITES, READS}
 use Rattle.rules.specs.Numbers.{badSlot, notOwner, damaged}
 use Rattle.rules.specs.Memory.{Mem, sizeR, sizeN, clock, wordsAt}
 use Rattle.rules.specs.Outcome.{Test, test, fits, storeTests, slotTests}

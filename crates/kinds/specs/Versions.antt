@@ -5,14 +5,14 @@ use mathlib.Core.List.{List, [], _∷_}
 use mathlib.Core.Option.{Option, none, some}
 use lib.ListN.{getD, set}
 use lib.Dec.{eqb, ltb}
-use Rattle.kinds.specs.declared.TxId.{TxId}
+use Rattle.words.specs.declared.TxId.{TxId}
 use Rattle.kinds.specs.declared.Cell.{Cell}
 use Rattle.kinds.specs.declared.Version.{Version}
 use Rattle.kinds.specs.declared.Value.{Value}
 use Rattle.kinds.specs.declared.Value.the-variants.{Nothing}
 use Rattle.kinds.specs.declared.ReadAnswer.{ReadAnswer}
 use Rattle.kinds.specs.declared.ReadAnswer.the-variants.{Empty, Key}
-use Rattle.kinds.specs.Lists.{nonzero}
+use Rattle.words.specs.Lists.{nonzero}
 
 abbrev pub tx : ℕ → TxId
 tx x = record { 0 = x }

@@ -3,8 +3,8 @@ use Prim.Native.Nat.{ℕ}
 use mathlib.Core.Bool.{Bool, not, _&&_, _||_}
 use lib.Dec.{eqb, ltb, leb}
 use Rattle.kinds.specs.declared.Version.{Version}
-use Rattle.kinds.specs.Lists.{nonzero, has}
-use Rattle.kinds.specs.Slots.{Slot}
+use Rattle.words.specs.Lists.{nonzero, has}
+use Rattle.words.specs.Slots.{Slot}
 
 -- "Creator visible: id is not 0, and it is the reader's own, or below snapshot xmax and not in its active list"
 unfoldable pub creatorVisible : Slot → ℕ → Bool

@@ -7,9 +7,9 @@ use mathlib.Core.Path.{_≡_, refl}
 use native.Mathlib.Nat.{not-suc-le-zero, le-of-suc-le-suc}
 use native.Mathlib.Omega.{arith}
 use lib.ListN.{length, getD}
-use Rattle.kinds.specs.Lists.{has}
+use Rattle.words.specs.Lists.{has}
 use Rattle.kinds.specs.Versions.{version}
-use Rattle.kinds.specs.Slots.{Slot}
+use Rattle.words.specs.Slots.{Slot}
 use Rattle.kinds.specs.Visible.{creatorVisible, visible, conflict}
 
 abbrev reader : Slot

@@ -1,10 +1,10 @@
 // The two lists of a slot, its writes and its read records: triples behind their count.
-use kinds::WIDTH;
+use words::WIDTH;
 ghost use mathlib.Core.Path.{_≡_};
 ghost use Prim.Native.Nat.{_+_, _*_, _≤_};
 ghost use lib.ListN.{getD};
-ghost use Rattle.kinds.specs.Sizes.{base};
-ghost use Rattle.kinds.specs.Slots as spec;
+ghost use Rattle.words.specs.Sizes.{base};
+ghost use Rattle.words.specs.Slots as spec;
 
 // One triple more in the list whose count stands at `place`.
 pub fn push(slot: &mut [u64; WIDTH], place: usize, x: u64, y: u64, z: u64)

@@ -3,8 +3,8 @@ use Prim.Native.Nat.{ℕ, _≤_}
 use mathlib.Core.List.{List, []}
 use mathlib.Core.Path.{_≡_, sym, ap, _∙_}
 use Rattle.kinds.specs.declared.Verdict.{Verdict}
-use Rattle.kinds.specs.Sizes.{base}
-use Rattle.kinds.specs.Lists.{fold}
+use Rattle.words.specs.Sizes.{base}
+use Rattle.words.specs.Lists.{fold}
 use Rattle.rules.specs.Memory.{Mem, sizeR, slotAt}
 use Rattle.rules.specs.Outcome.{each, refuse}
 use Rattle.rules.specs.Verdicts.{verdict, guard-fine, guard-refused}

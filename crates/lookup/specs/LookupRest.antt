@@ -7,9 +7,9 @@ use lib.Seq.{sets}
 use Rattle.kinds.specs.declared.Answer.{Answer}
 use Rattle.kinds.specs.declared.Answer.the-variants.{Listed}
 use Rattle.kinds.specs.declared.Verdict.{Verdict}
-use Rattle.kinds.specs.Sizes.{Sizes, base}
-use Rattle.kinds.specs.Lists.{from}
-use Rattle.kinds.specs.Slots.{Rec, addRecs}
+use Rattle.words.specs.Sizes.{Sizes, base}
+use Rattle.words.specs.Lists.{from}
+use Rattle.words.specs.Slots.{Rec, addRecs}
 use Rattle.rules.specs.Memory.{Mem, sizeR, wordsAt, slotAt, withSlot}
 use Rattle.rules.specs.Outcome.{Outcome, out, Test, guard, each, refuse, slotTests}
 use Rattle.rules.specs.Verdicts.{verdict, guard-append, guard-fine, guard-refused}

@@ -5,9 +5,9 @@ use mathlib.Core.List.{List, _∷_}
 use mathlib.Core.Path.{_≡_, refl, ap, _∙_}
 use native.Mathlib.Omega.{arith}
 use lib.ListN.{length, getD, replicate, length-replicate, getD-replicate}
-use Rattle.kinds.specs.Sizes.{base}
-use Rattle.kinds.specs.Lists.{has, fold, keep, from, nonzero}
-use Rattle.kinds.specs.Slots.{Write}
+use Rattle.words.specs.Sizes.{base}
+use Rattle.words.specs.Lists.{has, fold, keep, from, nonzero}
+use Rattle.words.specs.Slots.{Write}
 use Rattle.rules.specs.Memory.{Mem, sizeR}
 use Rattle.rules.specs.Lookup.{ownRows, rowsToRead}
 use Rattle.rules.specs.Theory.Cases.{byBool}

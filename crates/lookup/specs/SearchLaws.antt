@@ -8,7 +8,7 @@ use lib.Seq.{sets}
 use Rattle.kinds.specs.declared.Answer.{Answer}
 use Rattle.kinds.specs.declared.Answer.the-variants.{Listed}
 use Rattle.kinds.specs.declared.Verdict.{Verdict}
-use Rattle.kinds.specs.Sizes.{base}
+use Rattle.words.specs.Sizes.{base}
 use Rattle.kinds.specs.Versions.{versionAt}
 use Rattle.rules.specs.Memory.{Mem, sizeR, sizeN, wordsAt, withSlot}
 use Rattle.rules.specs.Theory.SlotLaws.{SlotOk}

@@ -2,18 +2,18 @@
 // caller's buffer. All rows are read first: slot and buffer are written at the end, so a refused lookup leaves both as they were.
 use finds::Listing;
 use kinds::Answer;
-use kinds::CELL_WORDS;
-use kinds::CELLS;
-use kinds::MOST_ROWS;
-use kinds::ROWS;
-use kinds::TxId;
 use kinds::Verdict;
-use kinds::WIDTH;
+use words::CELL_WORDS;
+use words::CELLS;
+use words::MOST_ROWS;
+use words::ROWS;
+use words::TxId;
+use words::WIDTH;
 ghost use mathlib.Core.Path.{_≡_};
 ghost use Prim.Native.Nat.{_≤_};
 ghost use lib.ListN.{length, take};
 ghost use lib.Seq.{sets};
-ghost use Rattle.kinds.specs.Sizes.{base};
+ghost use Rattle.words.specs.Sizes.{base};
 ghost use Rattle.rules.specs.Memory.{mem};
 ghost use Rattle.rules.specs.Lookup.{frontOf};
 ghost use Rattle.rules.specs.Lent.{memIn, memOut};

@@ -1,16 +1,16 @@
 // Paper 01's "run only" numbers on visibility, reclaiming, snapshot and horizon, on hand-made memory: one line for each, compared with
 // the file stdout, which was worked out from the paper.
-use kinds::ACTIVE;
 use kinds::Cell;
-use kinds::ID;
-use kinds::LAST_ID;
-use kinds::LOW;
-use kinds::SLOTS;
-use kinds::TOP;
-use kinds::TxId;
 use kinds::Version;
-use kinds::WIDTH;
 use libc::STDOUT_FILENO;
+use words::ACTIVE;
+use words::ID;
+use words::LAST_ID;
+use words::LOW;
+use words::SLOTS;
+use words::TOP;
+use words::TxId;
+use words::WIDTH;
 
 fn say(b: bool) {
     if b {

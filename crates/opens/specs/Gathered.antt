@@ -3,7 +3,7 @@ use Prim.Native.Nat.{ℕ, _≤_}
 use mathlib.Core.List.{List}
 use mathlib.Core.Path.{_≡_}
 use lib.ListN.{take}
-use Rattle.kinds.specs.Sizes.{base, ID}
+use Rattle.words.specs.Sizes.{base, ID}
 use Rattle.rules.specs.Snapshot.{occupied}
 
 pub record Gathered (ss : List (List ℕ)) (ids : List ℕ) (k : ℕ) : Type 0 where

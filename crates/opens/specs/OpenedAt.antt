@@ -4,8 +4,8 @@ use mathlib.Core.List.{List, []}
 use mathlib.Core.Path.{_≡_}
 use lib.ListN.{length, getD, set, take}
 use lib.Seq.{set-set, getD-set-same}
-use Rattle.kinds.specs.Sizes.{base, ID}
-use Rattle.kinds.specs.Slots.{opened}
+use Rattle.words.specs.Sizes.{base, ID}
+use Rattle.words.specs.Slots.{opened}
 use Rattle.rules.specs.Snapshot.{occupied, snapLow, snapTop}
 
 -- "active = occupied slots in slot order, own included"

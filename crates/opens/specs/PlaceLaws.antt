@@ -8,7 +8,7 @@ use native.Mathlib.Numerals.{add-one}
 use lib.ListN.{length, getD, set, take, drop, drop-of-length-le}
 use lib.Seq.{sets, drop-cons, take-suc-set, take-set-le}
 use lib.Dec.{eqb}
-use Rattle.kinds.specs.Sizes.{ID}
+use Rattle.words.specs.Sizes.{ID}
 use Rattle.rules.specs.Snapshot.{occupied}
 use Rattle.slots.specs.OccupiedLaws.{rest, rest-turn, rest-end}
 

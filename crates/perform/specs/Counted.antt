@@ -8,11 +8,11 @@ use lib.Dec.{ltb, leb}
 use lib.ListN.{length, length-append}
 use borrow.Author.Tests.{ltb-false, leb-false}
 use Rattle.kinds.specs.declared.Answer.{Answer}
-use Rattle.kinds.specs.Sizes.{Sizes}
+use Rattle.words.specs.Sizes.{Sizes}
 use Rattle.rules.specs.Numbers.{resultFull}
-use Rattle.kinds.specs.Lists.{keep, fold, from}
+use Rattle.words.specs.Lists.{keep, fold, from}
 use Rattle.kinds.specs.Versions.{versionAt}
-use Rattle.kinds.specs.Slots.{Rec, Slot, addRecs}
+use Rattle.words.specs.Slots.{Rec, Slot, addRecs}
 use Rattle.rules.specs.Memory.{Mem, sizeN, sizeR, headAt, slotAt, wordsAt, withSlot}
 use Rattle.rules.specs.Chain.{After, ends, goesOn, broken, chain}
 use Rattle.rules.specs.Snapshot.{horizon}

@@ -9,7 +9,7 @@ use lib.ListN.{length, getD, take, drop, set, length-take, length-append}
 use lib.Seq.{sets, sets-eq, length-sets, take-at, take-suc, take-suc-set}
 use Rattle.kinds.specs.declared.ReadAnswer.{ReadAnswer}
 use Rattle.kinds.specs.declared.Answer.{Answer}
-use Rattle.kinds.specs.Sizes.{base}
+use Rattle.words.specs.Sizes.{base}
 use Rattle.rules.specs.Memory.{Mem}
 use Rattle.rules.specs.Outcome.{Outcome, out}
 use Rattle.rules.specs.Run.{Call, create, begin, read, write, commit, abort, vacuum, lookupAll, step}

@@ -5,7 +5,7 @@ use mathlib.Core.Option.{Option, none, some}
 use lib.ListN.{getD, take}
 use Rattle.kinds.specs.declared.ReadAnswer.{ReadAnswer}
 use Rattle.kinds.specs.declared.Answer.{Answer}
-use Rattle.kinds.specs.Sizes.{base}
+use Rattle.words.specs.Sizes.{base}
 use Rattle.rules.specs.Memory.{Mem}
 use Rattle.rules.specs.Run.{Call, create, begin, read, write, commit, abort, vacuum, lookupAll, Reply, looked, gave, swept, Ran, step}
 use Rattle.lines.specs.declared.Line.{Line}

@@ -1,12 +1,12 @@
 // One record of the replay program performed on lent memory, and its answer line put into a lent buffer. specs/Perform.antt says what a
 // record does.
 use kinds::Answer;
-use kinds::CELL_WORDS;
 use kinds::ReadAnswer;
-use kinds::TxId;
 use kinds::Value;
-use kinds::WIDTH;
 use lines::Line;
+use words::CELL_WORDS;
+use words::TxId;
+use words::WIDTH;
 ghost use mathlib.Core.Path.{_≡_};
 ghost use Prim.Native.Nat.{_+_, _≤_};
 ghost use lib.ListN.{length, take};

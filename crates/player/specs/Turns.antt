@@ -12,7 +12,7 @@ use borrow.Author.Tests.{ltb-true, ltb-false}
 use Rattle.digits.specs.Numbers.{Laid}
 use Rattle.answers.specs.Answers.{room}
 use Rattle.answers.specs.Laws.{laid-as}
-use Rattle.kinds.specs.Sizes.{base}
+use Rattle.words.specs.Sizes.{base}
 use Rattle.rules.specs.Memory.{Mem}
 use Rattle.lines.specs.declared.Line.{Line}
 use Rattle.lines.specs.Lines.{meaning}

@@ -1,12 +1,12 @@
 // The body of the replay programs: standard input read in large pieces, a record at a time performed on the lent store, the answer lines
 // written in large pieces. What is answered to a piece is written before the next is read, so that a caller behind a pipe does not wait.
-use kinds::CELL_WORDS;
-use kinds::LAST_ID;
-use kinds::WIDTH;
 use libc::STDIN_FILENO;
 use libc::STDOUT_FILENO;
 use pieces::Held;
 use pieces::Next;
+use words::CELL_WORDS;
+use words::LAST_ID;
+use words::WIDTH;
 ghost use mathlib.Core.Path.{_≡_};
 ghost use mathlib.Core.List.{List};
 ghost use Prim.Native.Nat.{ℕ, suc, _+_, _≤_, _<_};

@@ -4,11 +4,11 @@ use Prim.Native.Nat.{ℕ, _+_, _-_, _<_, _≤_}
 use mathlib.Core.List.{List, [], _∷_}
 use mathlib.Core.Path.{_≡_, refl, sym, ap, _∙_}
 use lib.ListN.{length, getD}
-use Rattle.kinds.specs.Sizes.{base}
-use Rattle.kinds.specs.Lists.{fold}
-use Rattle.kinds.specs.Slots.{Write, write, threes}
+use Rattle.words.specs.Sizes.{base}
+use Rattle.words.specs.Lists.{fold}
+use Rattle.words.specs.Slots.{Write, write, threes}
 use Rattle.rules.specs.Memory.{Mem, mem}
-use Rattle.kinds.specs.WordLaws.{threes-step, threes-done}
+use Rattle.words.specs.WordLaws.{threes-step, threes-done}
 use Rattle.rules.specs.Commit.{publish, publishAll}
 use Rattle.rules.specs.Theory.Bridge.{WriteIn, AllIn}
 

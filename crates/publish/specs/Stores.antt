@@ -9,10 +9,10 @@ use lib.ListN.{length, getD}
 use lib.Seq.{set-set, set-comm}
 use borrow.Author.Tests.{eq-eqb, ne-eqb}
 use Rattle.kinds.specs.declared.Version.{Version}
-use Rattle.kinds.specs.Sizes.{Sizes}
-use Rattle.kinds.specs.Lists.{fold}
+use Rattle.words.specs.Sizes.{Sizes}
+use Rattle.words.specs.Lists.{fold}
 use Rattle.kinds.specs.Versions.{withXmax, withNext, unlocked, wordsOf, versionAt, linkAt, putCell, putVersion}
-use Rattle.kinds.specs.Slots.{Write}
+use Rattle.words.specs.Slots.{Write}
 use Rattle.rules.specs.Memory.{Mem, mem, withHead, withCells}
 use Rattle.rules.specs.Commit.{markBase, publish, publishAll}
 use Rattle.rules.specs.Theory.Bridge.{AllIn, has-cell}

@@ -2,17 +2,17 @@
 // what a later one writes. Cut anywhere and made again from the start, the sequence ends the same (specs/Stores.antt).
 use arena::put_version;
 use arena::version_at;
-use kinds::CELL_WORDS;
 use kinds::Cell;
-use kinds::MOST_WRITES;
-use kinds::TxId;
-use kinds::WIDTH;
-use kinds::WRITES;
+use words::CELL_WORDS;
+use words::MOST_WRITES;
+use words::TxId;
+use words::WIDTH;
+use words::WRITES;
 ghost use mathlib.Core.Path.{_≡_};
 ghost use Prim.Native.Nat.{min, _≤_};
 ghost use lib.ListN.{length};
-ghost use Rattle.kinds.specs.Sizes.{base};
-ghost use Rattle.kinds.specs.Slots.{slotOf, write};
+ghost use Rattle.words.specs.Sizes.{base};
+ghost use Rattle.words.specs.Slots.{slotOf, write};
 ghost use Rattle.rules.specs.Commit as rule;
 ghost use Rattle.rules.specs.Theory.Bridge.{WriteIn, AllIn};
 ghost use Rattle.publish.specs.PublishLaws.{lent};
@@ -56,7 +56,7 @@ pub fn publish_all(rows: &mut [u64], cells: &mut [[u64; CELL_WORDS]], slot: &[u6
     ensures { λ _. ⌜ lent (now (rows .exit)) (now (cells .exit))
         ≡ rule.publishAll (id .0) (slotOf base (now (slot .entry)) .writes) (lent (now (rows .entry)) (now (cells .entry))) ⌝ }
 {
-    let mut left = kinds::at_most(slot[WRITES], MOST_WRITES as u64);
+    let mut left = words::at_most(slot[WRITES], MOST_WRITES as u64);
     let mut a = WRITES + 1;
     while left > 0 {
         publish_one(

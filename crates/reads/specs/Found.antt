@@ -7,7 +7,7 @@ use native.Mathlib.Omega.{arith}
 use Rattle.kinds.specs.declared.Cell.{Cell}
 use Rattle.kinds.specs.declared.Version.{Version}
 use Rattle.kinds.specs.Versions.{at}
-use Rattle.kinds.specs.Slots.{Write}
+use Rattle.words.specs.Slots.{Write}
 use Rattle.rules.specs.Chain.{Look, found, nothing, tooLong, harmed}
 use Rattle.rules.specs.Outcome.{isCell}
 use Rattle.arena.specs.declared.Seen.{Seen}

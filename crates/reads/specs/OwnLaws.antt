@@ -8,10 +8,10 @@ use mathlib.Core.Logic.{_≢_}
 use native.Mathlib.Omega.{arith}
 use lib.ListN.{getD}
 use borrow.Author.Tests.{eq-eqb, ne-eqb}
-use Rattle.kinds.specs.Lists.{last, orElse}
-use Rattle.kinds.specs.Slots.{Write, write, rec, threes}
+use Rattle.words.specs.Lists.{last, orElse}
+use Rattle.words.specs.Slots.{Write, write, rec, threes}
 use Rattle.rules.specs.Read.{own, recorded}
-use Rattle.kinds.specs.WordLaws.{threes-step, threes-done}
+use Rattle.words.specs.WordLaws.{threes-step, threes-done}
 use Rattle.rules.specs.Theory.SlotLaws.{threes-more}
 
 -- the last of a list with one member more

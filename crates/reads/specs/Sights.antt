@@ -10,9 +10,9 @@ use lib.Dec.{leb}
 use Rattle.rules.specs.Theory.Cases.{byBool}
 use borrow.Author.Tests.{leb-false}
 use Rattle.kinds.specs.declared.Version.{Version}
-use Rattle.kinds.specs.Sizes.{base, READS}
+use Rattle.words.specs.Sizes.{base, READS}
 use Rattle.rules.specs.Numbers.{chainTooLong, readSetFull, damaged}
-use Rattle.kinds.specs.Slots.{Write, Rec, rec, Slot, slotOf}
+use Rattle.words.specs.Slots.{Write, Rec, rec, Slot, slotOf}
 use Rattle.rules.specs.Chain.{Look, found, nothing, tooLong, harmed, look}
 use Rattle.rules.specs.Outcome.{isCell}
 use Rattle.rules.specs.Read as R

@@ -1,23 +1,23 @@
 // A row as an open transaction reads it: its own write, else the first visible version; and the read records.
 use arena::Seen;
-use kinds::CELL_WORDS;
-use kinds::CHAIN_TOO_LONG;
 use kinds::Cell;
-use kinds::DAMAGED;
-use kinds::MOST_READS;
-use kinds::MOST_WRITES;
-use kinds::READ_SET_FULL;
-use kinds::READS;
-use kinds::TxId;
-use kinds::WIDTH;
-use kinds::WRITES;
+use words::CELL_WORDS;
+use words::CHAIN_TOO_LONG;
+use words::DAMAGED;
+use words::MOST_READS;
+use words::MOST_WRITES;
+use words::READ_SET_FULL;
+use words::READS;
+use words::TxId;
+use words::WIDTH;
+use words::WRITES;
 ghost use mathlib.Core.Path.{_≡_};
 ghost use Prim.Native.Nat.{_<_};
 ghost use lib.ListN.{getD};
-ghost use Rattle.kinds.specs.Sizes.{base};
-ghost use Rattle.kinds.specs.Sizes as words;
+ghost use Rattle.words.specs.Sizes.{base};
+ghost use Rattle.words.specs.Sizes as words;
 ghost use Rattle.kinds.specs.Versions.{versionAt};
-ghost use Rattle.kinds.specs.Slots.{slotOf, rec, addRec};
+ghost use Rattle.words.specs.Slots.{slotOf, rec, addRec};
 ghost use Rattle.rules.specs.Chain.{look};
 ghost use Rattle.rules.specs.Read as spec;
 ghost use Rattle.reads.specs.Found.{ownOf, foundOf};
@@ -42,7 +42,7 @@ pub enum Found {
 pub fn own_cell(slot: &[u64; WIDTH], row: u64) -> Own
     ensures { λ r. ⌜ r ≡ ownOf (spec.own (slotOf base (now (slot .entry)) .writes) row) ⌝ }
 {
-    let mut left = kinds::at_most(slot[WRITES], MOST_WRITES as u64) as usize;
+    let mut left = words::at_most(slot[WRITES], MOST_WRITES as u64) as usize;
     while left > 0 {
         left -= 1;
         let e = WRITES + 1 + 3 * left;
@@ -58,7 +58,7 @@ pub fn is_recorded(slot: &[u64; WIDTH], c: Cell) -> bool
     ensures { λ r. ⌜ r ≡ spec.recorded (c .0) (slotOf base (now (slot .entry)) .recs) ⌝ }
 {
     let cell = c.0;
-    let mut left = kinds::at_most(slot[READS], MOST_READS as u64);
+    let mut left = words::at_most(slot[READS], MOST_READS as u64);
     let mut e = READS + 1;
     while left > 0 {
         if slot[e + 1] == cell {

@@ -49,7 +49,7 @@ use denote.Triple.Spec.{Meets, tripleOf}
 use denote.Triple.Walked.{says, Stays, stay-none, stay-none-slice, walkOf, goes-none, goes-none-slice, Walks, ends-at, walked, walk-meets}
 use denote.Triple.Clauses.{Clauses, Ended, closing, ensured, lasts}
 use denote.Exit.{yes}
-use Rattle.kinds.specs.Lists.{least, fold}
+use Rattle.words.specs.Lists.{least, fold}
 use Rattle.records.specs.Horizon.{occupied}
 use Rattle.records.specs.FoldLaws.{lowers, fold-next, fold-end, fold-is-least}
 use Rattle.records.specs.declared.Slot.{Slot}

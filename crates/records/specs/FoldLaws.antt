@@ -10,7 +10,7 @@ use mathlib.Core.Path.{_≡_, refl, ap, _∙_}
 use lib.Dec.{eqb}
 use lib.ListN.{length, getD, drop}
 use lib.Seq.{drop-cons, drop-length}
-use Rattle.kinds.specs.Lists.{keep, least, fold}
+use Rattle.words.specs.Lists.{keep, least, fold}
 use Rattle.records.specs.declared.Slot.{Slot}
 use Rattle.records.specs.Horizon.{lowered, occupied}
 

@@ -3,7 +3,7 @@ use Prim.Native.Nat.{ℕ, min}
 use mathlib.Core.Bool.{Bool, cond}
 use mathlib.Core.List.{List, map}
 use lib.Dec.{eqb}
-use Rattle.kinds.specs.Lists.{nonzero, keep, least}
+use Rattle.words.specs.Lists.{nonzero, keep, least}
 use Rattle.records.specs.declared.Slot.{Slot}
 
 -- "a transaction id (0 = empty)"

@@ -10,7 +10,7 @@ use mathlib.Core.Path.{_≡_, refl, sym}
 use lib.Dec.{eqb, leb}
 use lib.ListN.{length, getD}
 use borrow.Author.Tests.{eq-eqb, ne-eqb, eqb-true, leb-true, leb-false}
-use Rattle.kinds.specs.Lists.{has, keep, least}
+use Rattle.words.specs.Lists.{has, keep, least}
 use Rattle.records.specs.declared.Slot.{Slot}
 use Rattle.records.specs.Horizon.{occupied, xmins, ids, horizonOf, leastActive}
 use Rattle.records.specs.FoldLaws.{lower-ceiling}

@@ -6,8 +6,8 @@ use mathlib.Core.List.{List, [], _∷_, map}
 use mathlib.Core.Path.{_≡_, refl}
 use lib.Dec.{eqb}
 use lib.ListN.{getD, take}
-use Rattle.kinds.specs.Lists.{keep}
-use Rattle.kinds.specs.Sizes.{Sizes, ID, LOW}
+use Rattle.words.specs.Lists.{keep}
+use Rattle.words.specs.Sizes.{Sizes, ID, LOW}
 use Rattle.rules.specs.Memory.{Mem, clock}
 use Rattle.rules.specs.Snapshot as store
 use Rattle.records.specs.declared.Slot.{Slot}

@@ -3,7 +3,7 @@
 // what a slot counts for to functions by value.
 ghost use mathlib.Core.Path.{_≡_};
 ghost use Prim.Native.Nat.{min};
-ghost use Rattle.kinds.specs.Lists.{least};
+ghost use Rattle.words.specs.Lists.{least};
 ghost use Rattle.records.specs.Horizon.{lowered, xmins, horizonOf, leastActive};
 
 // A slot: its transaction id (0 = empty) and its snapshot's xmin.

@@ -1,9 +1,9 @@
 // The replay program: calls of the version store as records on standard input, an answer line for each. The store that it lends starts with
 // every field zero.
-use kinds::CELL_WORDS;
-use kinds::META_WORDS;
-use kinds::SLOTS;
-use kinds::WIDTH;
+use words::CELL_WORDS;
+use words::META_WORDS;
+use words::SLOTS;
+use words::WIDTH;
 
 fn main() {
     let mut meta = [0u64; META_WORDS];

@@ -1,8 +1,8 @@
 // The replay program again, run on input whose last record lacks its CR LF.
-use kinds::CELL_WORDS;
-use kinds::META_WORDS;
-use kinds::SLOTS;
-use kinds::WIDTH;
+use words::CELL_WORDS;
+use words::META_WORDS;
+use words::SLOTS;
+use words::WIDTH;
 
 fn main() {
     let mut meta = [0u64; META_WORDS];

@@ -6,11 +6,11 @@ use lib.ListN.{set}
 use lib.Dec.{eqb, ltb}
 use Rattle.kinds.specs.declared.Answer.{Answer}
 use Rattle.kinds.specs.declared.Answer.the-variants.{Done}
-use Rattle.kinds.specs.Sizes.{Sizes, FREE}
+use Rattle.words.specs.Sizes.{Sizes, FREE}
 use Rattle.rules.specs.Numbers.{damaged}
-use Rattle.kinds.specs.Lists.{nonzero, fold}
+use Rattle.words.specs.Lists.{nonzero, fold}
 use Rattle.kinds.specs.Versions.{emptyVersion, unlocked, versionAt, putCell, putVersion}
-use Rattle.kinds.specs.Slots.{Write, emptied}
+use Rattle.words.specs.Slots.{Write, emptied}
 use Rattle.rules.specs.Memory.{Mem, mem, sizeN, free, slotAt, withCells, withSlot}
 use Rattle.rules.specs.Outcome.{Outcome, out, Test, test, guard, each, refuse, slotTests, isCell}
 

@@ -12,11 +12,11 @@ use lib.Dec.{eqb}
 use Rattle.kinds.specs.declared.Version.{Version}
 use Rattle.kinds.specs.declared.Answer.{Answer}
 use Rattle.kinds.specs.declared.Answer.the-variants.{Done}
-use Rattle.kinds.specs.Sizes.{Sizes, FREE}
-use Rattle.kinds.specs.Lists.{nonzero, fold}
+use Rattle.words.specs.Sizes.{Sizes, FREE}
+use Rattle.words.specs.Lists.{nonzero, fold}
 use Rattle.rules.specs.Theory.Cases.{byBool, byEq, byLe}
 use Rattle.kinds.specs.Versions.{emptyVersion, unlocked, versionOf, cellAt, versionAt, linkAt, putVersion}
-use Rattle.kinds.specs.Slots.{Write, emptied}
+use Rattle.words.specs.Slots.{Write, emptied}
 use Rattle.rules.specs.Memory.{Mem, sizeR, sizeN, free, slotAt, withCells, withSlot}
 use Rattle.rules.specs.Outcome.{Outcome, out, isCell}
 use Rattle.rules.specs.Abort.{unlockBase, news, abortOut}

@@ -9,7 +9,7 @@ use lib.Seq.{getD-take, getD-set-same}
 use borrow.Author.Tests.{eq-eqb, ne-eqb, le-leb}
 use Rattle.kinds.specs.declared.Answer.{Answer}
 use Rattle.kinds.specs.declared.Answer.the-variants.{Begun}
-use Rattle.kinds.specs.Sizes.{Sizes, ID, CLOCK}
+use Rattle.words.specs.Sizes.{Sizes, ID, CLOCK}
 use Rattle.rules.specs.Theory.Cases.{byEq, byLe}
 use Rattle.kinds.specs.Versions.{tx}
 use Rattle.rules.specs.Memory.{Mem, clock, wordsAt}

@@ -5,8 +5,8 @@ use mathlib.Core.List.{List, [], _∷_}
 use mathlib.Core.Option.{Option, none, some}
 use lib.Dec.{eqb, ltb}
 use Rattle.kinds.specs.declared.Version.{Version}
-use Rattle.kinds.specs.Lists.{first}
-use Rattle.kinds.specs.Slots.{Slot}
+use Rattle.words.specs.Lists.{first}
+use Rattle.words.specs.Slots.{Slot}
 use Rattle.kinds.specs.Visible.{visible}
 
 -- what comes after the cells of a chain: pointer 0; a further pointer, where the limit is reached; a pointer above N

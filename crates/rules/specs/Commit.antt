@@ -6,11 +6,11 @@ use mathlib.Core.List.{List, [], _∷_, _++_}
 use lib.Dec.{eqb, ltb, leb}
 use Rattle.kinds.specs.declared.Answer.{Answer}
 use Rattle.kinds.specs.declared.Answer.the-variants.{Done}
-use Rattle.kinds.specs.Sizes.{Sizes}
+use Rattle.words.specs.Sizes.{Sizes}
 use Rattle.rules.specs.Numbers.{writeConflict, readConflict, damaged}
-use Rattle.kinds.specs.Lists.{nonzero, fold}
+use Rattle.words.specs.Lists.{nonzero, fold}
 use Rattle.kinds.specs.Versions.{withXmax, withNext, unlocked, versionAt, putVersion}
-use Rattle.kinds.specs.Slots.{Write, Rec, Slot, emptied}
+use Rattle.words.specs.Slots.{Write, Rec, Slot, emptied}
 use Rattle.rules.specs.Memory.{Mem, sizeR, sizeN, headAt, slotAt, withHead, withCells, withSlot}
 use Rattle.kinds.specs.Visible.{conflict}
 use Rattle.rules.specs.Outcome.{Outcome, out, Test, test, guard, each, refuse, slotTests, isCell}

@@ -6,10 +6,10 @@ use mathlib.Core.Logic.{_≢_, _⊎_, inl, inr, ⊎-elim}
 use native.Mathlib.Omega.{arith}
 use Rattle.kinds.specs.declared.Answer.{Answer}
 use Rattle.kinds.specs.declared.Answer.the-variants.{Done}
-use Rattle.kinds.specs.Sizes.{Sizes}
+use Rattle.words.specs.Sizes.{Sizes}
 use Rattle.rules.specs.Numbers.{writeConflict, damaged}
 use Rattle.kinds.specs.Versions.{versionAt}
-use Rattle.kinds.specs.Slots.{Write, Slot, emptied}
+use Rattle.words.specs.Slots.{Write, Slot, emptied}
 use Rattle.rules.specs.Memory.{Mem, sizeR, sizeN, headAt, slotAt, withSlot}
 use Rattle.rules.specs.Outcome.{Outcome, out, refuse}
 use Rattle.rules.specs.Commit.{publishAll, commitOut}

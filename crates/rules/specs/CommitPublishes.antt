@@ -7,10 +7,10 @@ use native.Mathlib.Omega.{arith}
 use lib.ListN.{length, getD}
 use lib.Seq.{getD-set-same}
 use Rattle.kinds.specs.declared.Answer.{Answer}
-use Rattle.kinds.specs.Sizes.{Sizes}
+use Rattle.words.specs.Sizes.{Sizes}
 use Rattle.rules.specs.Theory.Cases.{byBool}
 use Rattle.kinds.specs.Versions.{withXmax, withNext, unlocked, cellAt, versionAt}
-use Rattle.kinds.specs.Slots.{Write, emptied}
+use Rattle.words.specs.Slots.{Write, emptied}
 use Rattle.rules.specs.Memory.{Mem, sizeR, sizeN, headAt, slotAt, withSlot}
 use Rattle.rules.specs.Outcome.{Outcome, isCell}
 use Rattle.rules.specs.Commit.{publishAll, commitOut}

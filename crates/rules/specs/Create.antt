@@ -7,10 +7,10 @@ use lib.Seq.{sets}
 use lib.Dec.{eqb}
 use Rattle.kinds.specs.declared.Answer.{Answer}
 use Rattle.kinds.specs.declared.Answer.the-variants.{Done}
-use Rattle.kinds.specs.Sizes.{Sizes}
+use Rattle.words.specs.Sizes.{Sizes}
 use Rattle.rules.specs.Numbers.{badSize}
 use Rattle.kinds.specs.Versions.{emptyVersion, wordsOf}
-use Rattle.kinds.specs.Slots.{emptied}
+use Rattle.words.specs.Slots.{emptied}
 use Rattle.rules.specs.Memory.{Mem, mem}
 use Rattle.rules.specs.Outcome.{Outcome, out, test, guard, refuse, fits}
 

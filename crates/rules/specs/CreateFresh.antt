@@ -5,9 +5,9 @@ use mathlib.Core.List.{[], _∷_}
 use mathlib.Core.Path.{_≡_, ap, _∙_}
 use native.Mathlib.Omega.{arith}
 use lib.ListN.{length, getD, replicate, length-replicate, getD-replicate}
-use Rattle.kinds.specs.Sizes.{Sizes, metaWords}
+use Rattle.words.specs.Sizes.{Sizes, metaWords}
 use Rattle.kinds.specs.Versions.{emptyVersion, versionOf, wordsOf, cellAt, versionAt}
-use Rattle.kinds.specs.Slots.{emptied}
+use Rattle.words.specs.Slots.{emptied}
 use Rattle.rules.specs.Memory.{Mem, sizeR, sizeN, clock, headAt, wordsAt}
 use Rattle.rules.specs.Create.{freshCells, created}
 use Rattle.rules.specs.Terms.{Fitting}

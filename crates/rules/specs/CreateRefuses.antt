@@ -4,7 +4,7 @@ use mathlib.Core.List.{List, [], _∷_, _++_}
 use mathlib.Core.Path.{_≡_, refl}
 use lib.ListN.{take}
 use Rattle.kinds.specs.declared.Answer.the-variants.{Done, Begun}
-use Rattle.kinds.specs.Sizes.{Sizes, lastId}
+use Rattle.words.specs.Sizes.{Sizes, lastId}
 use Rattle.rules.specs.Numbers.{badSize, clockSpent, noFreeSlot}
 use Rattle.kinds.specs.Versions.{tx}
 use Rattle.rules.specs.Memory.{Mem, clock}

@@ -9,11 +9,11 @@ use mathlib.Core.Logic.{_≢_, _↔_, Iff·trans, Iff·and, _⊎_, inl, inr, ⊎
 use native.Mathlib.Omega.{arith}
 use Rattle.kinds.specs.declared.ReadAnswer.{ReadAnswer}
 use Rattle.kinds.specs.declared.Answer.{Answer}
-use Rattle.kinds.specs.Sizes.{Sizes, ACTIVE, WRITES, READS}
+use Rattle.words.specs.Sizes.{Sizes, ACTIVE, WRITES, READS}
 use Rattle.rules.specs.Numbers.{badRow, damaged}
 use Rattle.rules.specs.Theory.Cases.{byEq, byLe}
 use Rattle.kinds.specs.Versions.{versionAt}
-use Rattle.kinds.specs.Slots.{Write, Rec, Slot}
+use Rattle.words.specs.Slots.{Write, Rec, Slot}
 use Rattle.rules.specs.Memory.{Mem, sizeR, sizeN, free, headAt, slotAt}
 use Rattle.rules.specs.Begin.{beginOut}
 use Rattle.rules.specs.Read.{readOut}

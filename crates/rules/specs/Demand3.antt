@@ -12,11 +12,11 @@ use lib.ListN.{length}
 use Rattle.kinds.specs.declared.Answer.{Answer}
 use Rattle.kinds.specs.declared.Answer.the-variants.{Done}
 use Rattle.kinds.specs.declared.ReadAnswer.{ReadAnswer}
-use Rattle.kinds.specs.Sizes.{base, Roomy, Sizes}
+use Rattle.words.specs.Sizes.{base, Roomy, Sizes}
 use Rattle.rules.specs.Numbers.{readNumber, numberOf}
-use Rattle.kinds.specs.Lists.{orElse, keep, from}
+use Rattle.words.specs.Lists.{orElse, keep, from}
 use Rattle.kinds.specs.Versions.{versionAt}
-use Rattle.kinds.specs.Slots.{Rec, Slot}
+use Rattle.words.specs.Slots.{Rec, Slot}
 use Rattle.rules.specs.Memory.{Mem, slotAt, sizeR, sizeN, clock, headAt}
 use Rattle.rules.specs.Chain.{ends, Chain}
 use Rattle.rules.specs.Snapshot.{horizon}

@@ -7,12 +7,12 @@ use mathlib.Core.Logic.{_≢_, _↔_, Iff·trans, _⊎_, inl, inr}
 use native.Mathlib.Omega.{arith}
 use Rattle.kinds.specs.declared.ReadAnswer.{ReadAnswer}
 use Rattle.kinds.specs.declared.Answer.{Answer}
-use Rattle.kinds.specs.Sizes.{Sizes, lastId}
+use Rattle.words.specs.Sizes.{Sizes, lastId}
 use Rattle.rules.specs.Numbers.{badSize, clockSpent, noFreeSlot, badSlot, notOwner}
 use Rattle.rules.specs.Theory.Cases.{byLe}
 use Rattle.rules.specs.Memory.{Mem, sizeR, clock, slotAt}
 use Rattle.rules.specs.Lookup.{ownRows, rowsToRead}
-use Rattle.kinds.specs.Lists.{from}
+use Rattle.words.specs.Lists.{from}
 use Rattle.rules.specs.Run.{Call, create, begin, read, write, commit, abort, vacuum, lookup, lookupAll, Reply, looked, gave, swept, step}
 use Rattle.rules.specs.Exactly.{Line, Refuses, Lacks, eachOf, under, FirstLine, inAnswer, inRead, refused-iff, refuses-first-line, refuses-before, lacks-append, lacks-each, lacks-under}
 use Rattle.rules.specs.Terms.{Fitting, StoreDamaged, AllOccupied}

@@ -13,8 +13,8 @@ use borrow.Author.Tests.{eqb-true, eqb-false, ltb-true, ltb-false, leb-true, leb
 use Rattle.kinds.specs.declared.ReadAnswer.{ReadAnswer}
 use Rattle.kinds.specs.declared.Answer.{Answer}
 use Rattle.kinds.specs.declared.Answer.the-variants.{Done, Begun, Wrote, Vacuumed, Listed}
-use Rattle.kinds.specs.Sizes.{Sizes}
-use Rattle.kinds.specs.Lists.{nonzero, has}
+use Rattle.words.specs.Sizes.{Sizes}
+use Rattle.words.specs.Lists.{nonzero, has}
 use Rattle.rules.specs.Theory.Cases.{byBool, no-both}
 use Rattle.rules.specs.Memory.{Mem}
 use Rattle.rules.specs.Outcome.{Outcome, out, Test, guard, each, refuse}

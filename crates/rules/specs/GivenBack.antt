@@ -5,8 +5,8 @@ use mathlib.Core.Path.{_≡_, refl, ap, _∙_}
 use mathlib.Core.Logic.{_≢_, inl, inr}
 use lib.ListN.{length, getD}
 use lib.Seq.{getD-set-same, getD-set-other}
-use Rattle.kinds.specs.Sizes.{Sizes, FREE}
-use Rattle.kinds.specs.Lists.{fold}
+use Rattle.words.specs.Sizes.{Sizes, FREE}
+use Rattle.words.specs.Lists.{fold}
 use Rattle.kinds.specs.Versions.{versionOf, emptyVersion, cellAt, versionAt, linkAt}
 use Rattle.rules.specs.Memory.{Mem, free}
 use Rattle.rules.specs.Abort.{giveBack}

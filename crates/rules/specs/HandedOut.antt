@@ -12,9 +12,9 @@ use lib.Seq.{getD-set-same}
 use lib.Dec.{eqb}
 use borrow.Author.Tests.{eq-eqb, ne-eqb}
 use Rattle.kinds.specs.declared.Answer.the-variants.{Wrote}
-use Rattle.kinds.specs.Sizes.{Sizes, FREE}
+use Rattle.words.specs.Sizes.{Sizes, FREE}
 use Rattle.rules.specs.Theory.Cases.{byEq, byLe}
-use Rattle.kinds.specs.Lists.{fold, from}
+use Rattle.words.specs.Lists.{fold, from}
 use Rattle.kinds.specs.Versions.{at, emptyVersion, lockedFor, newVersion, wordsOf, cellAt, versionAt, linkAt, putCell}
 use Rattle.rules.specs.Memory.{Mem, sizeR, sizeN, free, headAt, slotAt}
 use Rattle.rules.specs.Outcome.{out}

@@ -9,7 +9,7 @@ use Rattle.kinds.specs.declared.Answer.{Answer}
 use Rattle.kinds.specs.declared.Answer.the-variants.{Done, Begun, Wrote, Vacuumed, Listed}
 use Rattle.kinds.specs.declared.ReadAnswer.{ReadAnswer}
 use Rattle.kinds.specs.declared.ReadAnswer.the-variants.{Empty, Key, None}
-use Rattle.kinds.specs.Lists.{orElse}
+use Rattle.words.specs.Lists.{orElse}
 use Rattle.rules.specs.Vacuum.{reports}
 use Rattle.rules.specs.Run.{commit, write, Call, Reply, looked, swept, create, gave, begin, read, abort, vacuum, lookup, lookupAll}
 

@@ -6,8 +6,8 @@ use mathlib.Core.Logic.{_≢_, _↔_, _⊎_, inl, inr, ⊎-elim}
 use native.Mathlib.Omega.{arith}
 use lib.ListN.{length, getD}
 use borrow.Author.Tests.{eq-eqb, ne-eqb}
-use Rattle.kinds.specs.Sizes.{ID, LOW}
-use Rattle.kinds.specs.Lists.{least}
+use Rattle.words.specs.Sizes.{ID, LOW}
+use Rattle.words.specs.Lists.{least}
 use Rattle.rules.specs.Theory.Cases.{byEq, byLe}
 use Rattle.rules.specs.Snapshot.{occupied, horizonOf}
 use Rattle.rules.specs.Exactly.{In}

@@ -3,7 +3,7 @@ use Prim.Native.Nat.{ℕ}
 use mathlib.Core.List.{List}
 use denote.Ref.{RefT, now}
 use denote.Triple.Both.{Both}
-use Rattle.kinds.specs.Sizes.{base}
+use Rattle.words.specs.Sizes.{base}
 use Rattle.rules.specs.Memory.{Mem, mem}
 
 -- a lent slice of words, and one of arrays of words

@@ -10,10 +10,10 @@ use lib.Dec.{ltb, leb, eqb}
 use lib.ListN.{length}
 use Rattle.kinds.specs.declared.Answer.{Answer}
 use Rattle.kinds.specs.declared.Answer.the-variants.{Listed}
-use Rattle.kinds.specs.Sizes.{Sizes}
+use Rattle.words.specs.Sizes.{Sizes}
 use Rattle.rules.specs.Numbers.{chainTooLong, readSetFull, resultFull}
-use Rattle.kinds.specs.Lists.{keep, has, from, first}
-use Rattle.kinds.specs.Slots.{Rec}
+use Rattle.words.specs.Lists.{keep, has, from, first}
+use Rattle.words.specs.Slots.{Rec}
 use Rattle.rules.specs.Memory.{Mem, slotAt}
 use Rattle.rules.specs.Outcome.{Outcome, refuse}
 use Rattle.rules.specs.Read.{recorded}

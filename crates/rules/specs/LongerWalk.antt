@@ -8,11 +8,11 @@ use mathlib.Core.Logic.{_≢_, _⊎_, inl, inr}
 use native.Mathlib.Omega.{arith}
 use Rattle.kinds.specs.declared.Version.{Version}
 use Rattle.kinds.specs.declared.ReadAnswer.{ReadAnswer}
-use Rattle.kinds.specs.Sizes.{Sizes}
+use Rattle.words.specs.Sizes.{Sizes}
 use Rattle.rules.specs.Numbers.{chainTooLong, readSetFull, damaged}
 use Rattle.rules.specs.Theory.Cases.{byBool}
 use Rattle.kinds.specs.Versions.{versionAt}
-use Rattle.kinds.specs.Slots.{Write, Rec, Slot, slotOf}
+use Rattle.words.specs.Slots.{Write, Rec, Slot, slotOf}
 use Rattle.rules.specs.Memory.{Mem, mem, sizeN, headAt, slotAt}
 use Rattle.rules.specs.Chain.{Look, found, nothing, tooLong, harmed, look}
 use Rattle.rules.specs.Outcome.{Outcome, Test, guard, refuseRead, fits, storeTests, slotTests, rowTest}

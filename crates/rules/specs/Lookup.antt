@@ -9,11 +9,11 @@ use Rattle.kinds.specs.declared.ReadAnswer.{ReadAnswer}
 use Rattle.kinds.specs.declared.ReadAnswer.the-variants.{None, Empty, Key}
 use Rattle.kinds.specs.declared.Answer.{Answer}
 use Rattle.kinds.specs.declared.Answer.the-variants.{Listed}
-use Rattle.kinds.specs.Sizes.{Sizes}
+use Rattle.words.specs.Sizes.{Sizes}
 use Rattle.rules.specs.Numbers.{resultFull, damaged}
-use Rattle.kinds.specs.Lists.{has, keep, fold, from}
+use Rattle.words.specs.Lists.{has, keep, fold, from}
 use Rattle.kinds.specs.Versions.{versionAt}
-use Rattle.kinds.specs.Slots.{Write, Rec, Slot, addRecs}
+use Rattle.words.specs.Slots.{Write, Rec, Slot, addRecs}
 use Rattle.rules.specs.Memory.{Mem, sizeR, wordsAt, slotAt, withSlot}
 use Rattle.rules.specs.Outcome.{Outcome, out, Test, test, guard, each, refuse, slotTests, rowTest}
 use Rattle.rules.specs.Read.{answerAt, Sight, blocked, sees, readAt}

@@ -7,12 +7,12 @@ use mathlib.Core.Logic.{_↔_, Iff·trans, Iff·and, _⊎_, inl, inr, ⊎-elim}
 use native.Mathlib.Omega.{arith}
 use lib.ListN.{length}
 use Rattle.kinds.specs.declared.Answer.{Answer}
-use Rattle.kinds.specs.Sizes.{Sizes}
+use Rattle.words.specs.Sizes.{Sizes}
 use Rattle.rules.specs.Numbers.{badRow, resultFull, damaged}
 use Rattle.rules.specs.Theory.Cases.{byBool, byLe}
-use Rattle.kinds.specs.Lists.{from}
+use Rattle.words.specs.Lists.{from}
 use Rattle.kinds.specs.Versions.{versionAt}
-use Rattle.kinds.specs.Slots.{Rec}
+use Rattle.words.specs.Slots.{Rec}
 use Rattle.rules.specs.Memory.{Mem, sizeR, sizeN, headAt, slotAt}
 use Rattle.rules.specs.Read.{answerAt, Sight, blocked, sees}
 use Rattle.rules.specs.Lookup.{isKey, ownRows, rowsToRead, lookupOut, lookupAllOut}

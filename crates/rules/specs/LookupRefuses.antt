@@ -9,12 +9,12 @@ use lib.ListN.{length}
 use lib.Dec.{leb}
 use borrow.Author.Tests.{eq-eqb, ne-eqb}
 use Rattle.kinds.specs.declared.Version.{Version}
-use Rattle.kinds.specs.Sizes.{Sizes}
+use Rattle.words.specs.Sizes.{Sizes}
 use Rattle.rules.specs.Numbers.{resultFull, damaged}
-use Rattle.kinds.specs.Lists.{fold, from}
+use Rattle.words.specs.Lists.{fold, from}
 use Rattle.rules.specs.Theory.Cases.{byBool, byEq, no-both}
 use Rattle.kinds.specs.Versions.{versionAt}
-use Rattle.kinds.specs.Slots.{Rec, Slot}
+use Rattle.words.specs.Slots.{Rec, Slot}
 use Rattle.rules.specs.Memory.{Mem, sizeR, sizeN, headAt, slotAt}
 use Rattle.rules.specs.Outcome.{Test, guard, each, slotTests}
 use Rattle.rules.specs.Read.{answerAt, Sight, blocked, sees, readAt}

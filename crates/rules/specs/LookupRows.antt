@@ -4,10 +4,10 @@ use mathlib.Core.Bool.{_||_}
 use mathlib.Core.List.{List, [], _∷_}
 use mathlib.Core.Logic.{_≢_, _↔_, _⊎_, inl, inr, ⊎-elim}
 use native.Mathlib.Omega.{arith}
-use Rattle.kinds.specs.Sizes.{Sizes}
-use Rattle.kinds.specs.Lists.{has, from}
+use Rattle.words.specs.Sizes.{Sizes}
+use Rattle.words.specs.Lists.{has, from}
 use Rattle.rules.specs.Theory.Cases.{byEq}
-use Rattle.kinds.specs.Slots.{Write}
+use Rattle.words.specs.Slots.{Write}
 use Rattle.rules.specs.Memory.{Mem, sizeR}
 use Rattle.rules.specs.Lookup.{ownRows, rowsToRead}
 use Rattle.rules.specs.Exactly.{In, All, is-in, is-either}

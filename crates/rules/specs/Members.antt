@@ -5,7 +5,7 @@ use mathlib.Core.Path.{refl, sym, subst}
 use mathlib.Core.Logic.{_↔_, _⊎_, inl, inr, ⊎-elim}
 use native.Mathlib.Omega.{arith}
 use lib.ListN.{length}
-use Rattle.kinds.specs.Lists.{has}
+use Rattle.words.specs.Lists.{has}
 use Rattle.rules.specs.Theory.Cases.{byBool}
 use Rattle.rules.specs.Exactly.{In, All, is-in}
 use Rattle.rules.specs.VacuumRefuses.{Picks}

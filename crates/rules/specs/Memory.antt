@@ -2,8 +2,8 @@
 use Prim.Native.Nat.{ℕ}
 use mathlib.Core.List.{List, []}
 use lib.ListN.{getD, set}
-use Rattle.kinds.specs.Sizes.{Sizes, ROWS, CELLS, CLOCK, FREE}
-use Rattle.kinds.specs.Slots.{Slot, slotOf}
+use Rattle.words.specs.Sizes.{Sizes, ROWS, CELLS, CLOCK, FREE}
+use Rattle.words.specs.Slots.{Slot, slotOf}
 
 pub record Mem (z : Sizes) : Type 0 where
   pub meta : List ℕ

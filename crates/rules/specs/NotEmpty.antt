@@ -11,11 +11,11 @@ use lib.ListN.{length, getD, set, take, replicate}
 use Rattle.kinds.specs.declared.ReadAnswer.{ReadAnswer}
 use Rattle.kinds.specs.declared.ReadAnswer.the-variants.{None, Key}
 use Rattle.kinds.specs.declared.Answer.the-variants.{Done, Begun, Wrote, Vacuumed, Listed, Refused}
-use Rattle.kinds.specs.Sizes.{base, lastId, ID, WRITES}
-use Rattle.kinds.specs.Lists.{has, keep, first, last, fold, least, greatest, from}
+use Rattle.words.specs.Sizes.{base, lastId, ID, WRITES}
+use Rattle.words.specs.Lists.{has, keep, first, last, fold, least, greatest, from}
 use Rattle.kinds.specs.Versions.{tx, at, versionOf, wordsOf, cellAt, versionAt, linkAt, withXmax, withNext, lockedFor, unlocked, putCell}
-use Rattle.kinds.specs.Slots.{words, threes, slotOf, push, opened}
-use Rattle.kinds.specs.Slots as S
+use Rattle.words.specs.Slots.{words, threes, slotOf, push, opened}
+use Rattle.words.specs.Slots as S
 use Rattle.rules.specs.Memory.{Mem, mem, sizeR, sizeN, free, headAt, wordsAt, slotAt, withSlot}
 use Rattle.kinds.specs.Visible.{creatorVisible, visible, conflict}
 use Rattle.rules.specs.Chain.{chain, look}

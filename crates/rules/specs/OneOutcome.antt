@@ -13,11 +13,11 @@ use Rattle.kinds.specs.declared.ReadAnswer.{ReadAnswer}
 use Rattle.kinds.specs.declared.ReadAnswer.the-variants.{None}
 use Rattle.kinds.specs.declared.Answer.{Answer}
 use Rattle.kinds.specs.declared.Answer.the-variants.{Done, Begun, Wrote, Vacuumed, Listed}
-use Rattle.kinds.specs.Sizes.{Sizes}
-use Rattle.kinds.specs.Lists.{fold, from}
+use Rattle.words.specs.Sizes.{Sizes}
+use Rattle.words.specs.Lists.{fold, from}
 use Rattle.rules.specs.Theory.Cases.{byBool}
 use Rattle.kinds.specs.Versions.{tx, at, valueOf, versionAt}
-use Rattle.kinds.specs.Slots.{Write, Rec, addRecs, emptied}
+use Rattle.words.specs.Slots.{Write, Rec, addRecs, emptied}
 use Rattle.rules.specs.Memory.{Mem, sizeR, sizeN, clock, free, headAt, wordsAt, slotAt, withCells, withSlot}
 use Rattle.rules.specs.Chain.{After, ends, goesOn, broken, chained}
 use Rattle.rules.specs.Snapshot.{vacant, horizon}

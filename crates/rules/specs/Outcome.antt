@@ -6,9 +6,9 @@ use lib.ListN.{length, getD}
 use lib.Dec.{eqb, ltb, leb}
 use Rattle.kinds.specs.declared.ReadAnswer.{ReadAnswer}
 use Rattle.kinds.specs.declared.Answer.{Answer}
-use Rattle.kinds.specs.Sizes.{Sizes, metaWords, ID, ACTIVE, WRITES, READS}
+use Rattle.words.specs.Sizes.{Sizes, metaWords, ID, ACTIVE, WRITES, READS}
 use Rattle.rules.specs.Numbers.{badSlot, notOwner, badRow, damaged}
-use Rattle.kinds.specs.Lists.{nonzero}
+use Rattle.words.specs.Lists.{nonzero}
 use Rattle.rules.specs.Memory.{Mem, sizeR, sizeN, clock, wordsAt}
 
 -- the answer; what is written at the front of the caller's buffer, the rest untouched; the memory after

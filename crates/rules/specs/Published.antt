@@ -8,11 +8,11 @@ use native.Mathlib.Omega.{arith}
 use lib.ListN.{length, getD, set, length-set}
 use lib.Seq.{getD-set-same, getD-set-other}
 use borrow.Author.Tests.{eq-eqb, ne-eqb}
-use Rattle.kinds.specs.Sizes.{Sizes}
-use Rattle.kinds.specs.Lists.{fold}
+use Rattle.words.specs.Sizes.{Sizes}
+use Rattle.words.specs.Lists.{fold}
 use Rattle.rules.specs.Theory.Cases.{byEq}
 use Rattle.kinds.specs.Versions.{withXmax, withNext, unlocked, versionOf, cellAt, versionAt, linkAt, putVersion}
-use Rattle.kinds.specs.Slots.{Write}
+use Rattle.words.specs.Slots.{Write}
 use Rattle.rules.specs.Memory.{Mem, headAt}
 use Rattle.rules.specs.Commit.{markBase, publish, publishAll}
 use Rattle.rules.specs.Exactly.{In, All, all-map}

@@ -11,10 +11,10 @@ use lib.ListN.{take, length}
 use Rattle.kinds.specs.declared.Answer.{Answer}
 use Rattle.kinds.specs.declared.Answer.the-variants.{Done, Vacuumed}
 use Rattle.kinds.specs.declared.ReadAnswer.the-variants.{None}
-use Rattle.kinds.specs.Sizes.{Sizes}
-use Rattle.kinds.specs.Lists.{nonzero, first, from, has, keep}
+use Rattle.words.specs.Sizes.{Sizes}
+use Rattle.words.specs.Lists.{nonzero, first, from, has, keep}
 use Rattle.kinds.specs.Versions.{versionAt, withNext, emptyVersion, linkAt, valueOf}
-use Rattle.kinds.specs.Slots.{Rec, Write, Slot}
+use Rattle.words.specs.Slots.{Rec, Write, Slot}
 use Rattle.rules.specs.Memory.{Mem, sizeN, headAt, free, slotAt, sizeR}
 use Rattle.kinds.specs.Visible.{visible}
 use Rattle.rules.specs.Chain.{chain, Chain}

@@ -8,11 +8,11 @@ use lib.Dec.{eqb, leb}
 use Rattle.kinds.specs.declared.Version.{Version}
 use Rattle.kinds.specs.declared.ReadAnswer.{ReadAnswer}
 use Rattle.kinds.specs.declared.ReadAnswer.the-variants.{None}
-use Rattle.kinds.specs.Sizes.{Sizes}
+use Rattle.words.specs.Sizes.{Sizes}
 use Rattle.rules.specs.Numbers.{chainTooLong, readSetFull, damaged}
-use Rattle.kinds.specs.Lists.{last}
+use Rattle.words.specs.Lists.{last}
 use Rattle.kinds.specs.Versions.{versionAt, valueOf}
-use Rattle.kinds.specs.Slots.{Write, Rec, rec, Slot, addRecs}
+use Rattle.words.specs.Slots.{Write, Rec, rec, Slot, addRecs}
 use Rattle.rules.specs.Memory.{Mem, sizeN, headAt, wordsAt, slotAt, withSlot}
 use Rattle.rules.specs.Chain.{Look, found, nothing, tooLong, harmed, look}
 use Rattle.rules.specs.Outcome.{Outcome, out, guard, refuseRead, slotTests, rowTest, isCell}

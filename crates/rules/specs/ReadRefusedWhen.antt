@@ -8,10 +8,10 @@ use native.Mathlib.Omega.{arith}
 use lib.ListN.{length, take}
 use Rattle.kinds.specs.declared.Version.{Version}
 use Rattle.kinds.specs.declared.ReadAnswer.{ReadAnswer}
-use Rattle.kinds.specs.Sizes.{Sizes}
+use Rattle.words.specs.Sizes.{Sizes}
 use Rattle.rules.specs.Numbers.{chainTooLong, readSetFull}
 use Rattle.kinds.specs.Versions.{versionAt}
-use Rattle.kinds.specs.Slots.{Slot}
+use Rattle.words.specs.Slots.{Slot}
 use Rattle.rules.specs.Memory.{Mem, sizeN, headAt, slotAt}
 use Rattle.rules.specs.Chain.{Look, found, tooLong, harmed}
 use Rattle.rules.specs.Read.{readOut}

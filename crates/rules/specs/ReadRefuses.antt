@@ -10,12 +10,12 @@ use lib.Dec.{eqb, leb}
 use Rattle.kinds.specs.declared.Version.{Version}
 use Rattle.kinds.specs.declared.ReadAnswer.{ReadAnswer}
 use Rattle.kinds.specs.declared.ReadAnswer.the-variants.{None, Empty, Key}
-use Rattle.kinds.specs.Sizes.{Sizes}
+use Rattle.words.specs.Sizes.{Sizes}
 use Rattle.rules.specs.Numbers.{chainTooLong, readSetFull, damaged}
-use Rattle.kinds.specs.Lists.{nonzero}
+use Rattle.words.specs.Lists.{nonzero}
 use Rattle.rules.specs.Theory.Cases.{byBool}
 use Rattle.kinds.specs.Versions.{versionAt}
-use Rattle.kinds.specs.Slots.{Write, Rec, rec, Slot}
+use Rattle.words.specs.Slots.{Write, Rec, rec, Slot}
 use Rattle.rules.specs.Memory.{Mem, sizeN, headAt, slotAt}
 use Rattle.rules.specs.Chain.{Look, found, nothing, tooLong, harmed, look}
 use Rattle.rules.specs.Outcome.{slotTests, rowTest, isCell}

@@ -8,10 +8,10 @@ use Prim.Native.Nat.{ℕ, _≤_}
 use lib.ListN.{replicate}
 use Rattle.kinds.specs.declared.Answer.the-variants.{Begun, Wrote, Done, Vacuumed, Listed}
 use Rattle.kinds.specs.declared.ReadAnswer.the-variants.{Key, None}
-use Rattle.kinds.specs.Sizes.{base, lastId}
-use Rattle.kinds.specs.Lists.{last, fold, has, keep, first, least, greatest, from}
+use Rattle.words.specs.Sizes.{base, lastId}
+use Rattle.words.specs.Lists.{last, fold, has, keep, first, least, greatest, from}
 use Rattle.kinds.specs.Versions.{at, tx, versionOf, wordsOf, cellAt, putCell}
-use Rattle.kinds.specs.Slots.{words, threes, slotOf, push, opened}
+use Rattle.words.specs.Slots.{words, threes, slotOf, push, opened}
 use Rattle.rules.specs.Memory.{Mem, mem}
 use Rattle.kinds.specs.Visible.{creatorVisible, visible, conflict}
 use Rattle.rules.specs.Chain.{look, chain}

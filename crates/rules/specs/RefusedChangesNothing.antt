@@ -9,12 +9,12 @@ use lib.Dec.{eqb}
 use Rattle.kinds.specs.declared.Version.{Version}
 use Rattle.kinds.specs.declared.ReadAnswer.{ReadAnswer}
 use Rattle.kinds.specs.declared.Answer.{Answer}
-use Rattle.kinds.specs.Sizes.{Sizes}
+use Rattle.words.specs.Sizes.{Sizes}
 use Rattle.rules.specs.Numbers.{readNumber, numberOf}
-use Rattle.kinds.specs.Lists.{nonzero}
+use Rattle.words.specs.Lists.{nonzero}
 use Rattle.rules.specs.Theory.Cases.{byBool}
 use Rattle.kinds.specs.Versions.{versionAt}
-use Rattle.kinds.specs.Slots.{Write}
+use Rattle.words.specs.Slots.{Write}
 use Rattle.rules.specs.Memory.{Mem}
 use Rattle.rules.specs.Chain.{After, ends, goesOn, broken}
 use Rattle.rules.specs.Outcome.{Outcome, out, Test, guard}

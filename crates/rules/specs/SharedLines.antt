@@ -5,7 +5,7 @@ use mathlib.Core.Path.{_≡_, refl}
 use mathlib.Core.Logic.{_≢_, _⊎_}
 use native.Mathlib.Omega.{arith}
 use lib.ListN.{getD}
-use Rattle.kinds.specs.Sizes.{Sizes, ID, ACTIVE, WRITES, READS}
+use Rattle.words.specs.Sizes.{Sizes, ID, ACTIVE, WRITES, READS}
 use Rattle.rules.specs.Numbers.{badSlot, notOwner, badRow, damaged}
 use Rattle.rules.specs.Memory.{Mem, sizeR, wordsAt}
 use Rattle.rules.specs.Outcome.{storeTests, slotTests, rowTest}

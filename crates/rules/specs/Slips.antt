@@ -6,11 +6,11 @@ use lib.ListN.{replicate}
 use Rattle.kinds.specs.declared.Answer.{Answer}
 use Rattle.kinds.specs.declared.Answer.the-variants.{Begun, Wrote, Done, Vacuumed}
 use Rattle.kinds.specs.declared.ReadAnswer.the-variants.{Key}
-use Rattle.kinds.specs.Sizes.{base, lastId}
-use Rattle.kinds.specs.Lists.{last, fold, has, keep, first, least, greatest, from}
+use Rattle.words.specs.Sizes.{base, lastId}
+use Rattle.words.specs.Lists.{last, fold, has, keep, first, least, greatest, from}
 use Rattle.kinds.specs.Versions.{at, tx, versionOf, wordsOf, cellAt, putCell, versionAt, putVersion, withXmax, reclaimable}
-use Rattle.kinds.specs.Slots.{words, threes, slotOf, push, opened, addWrite}
-use Rattle.kinds.specs.Slots as S
+use Rattle.words.specs.Slots.{words, threes, slotOf, push, opened, addWrite}
+use Rattle.words.specs.Slots as S
 use Rattle.rules.specs.Memory.{Mem, mem, wordsAt, withSlot, withCells}
 use Rattle.kinds.specs.Visible.{creatorVisible, visible, conflict}
 use Rattle.rules.specs.Chain.{look, chain}

@@ -4,8 +4,8 @@ use mathlib.Core.Bool.{cond}
 use mathlib.Core.List.{List, [], _∷_}
 use lib.ListN.{take, getD}
 use lib.Dec.{eqb}
-use Rattle.kinds.specs.Sizes.{Sizes, lastId, ID, LOW}
-use Rattle.kinds.specs.Lists.{least, greatest}
+use Rattle.words.specs.Sizes.{Sizes, lastId, ID, LOW}
+use Rattle.words.specs.Lists.{least, greatest}
 use Rattle.rules.specs.Memory.{Mem, clock}
 
 -- word k of the occupied slots, in slot order: "occupied" is an id other than 0

@@ -11,11 +11,11 @@ use lib.ListN.{length, take, getD}
 use lib.Dec.{eqb, leb}
 use borrow.Author.Tests.{eq-eqb, ne-eqb}
 use Rattle.kinds.specs.declared.Version.{Version}
-use Rattle.kinds.specs.Sizes.{Sizes, metaWords, ID}
-use Rattle.kinds.specs.Lists.{last, orElse}
+use Rattle.words.specs.Sizes.{Sizes, metaWords, ID}
+use Rattle.words.specs.Lists.{last, orElse}
 use Rattle.rules.specs.Theory.Cases.{byBool, byEq, no-both}
 use Rattle.kinds.specs.Versions.{lockedByOther}
-use Rattle.kinds.specs.Slots.{Write, Rec, Slot}
+use Rattle.words.specs.Slots.{Write, Rec, Slot}
 use Rattle.rules.specs.Memory.{Mem, sizeR, sizeN, clock}
 use Rattle.kinds.specs.Visible.{creatorVisible, visible, conflict}
 use Rattle.rules.specs.Snapshot.{vacant}

@@ -8,10 +8,10 @@ use lib.ListN.{getD}
 use borrow.Author.Tests.{eq-eqb, ne-eqb, le-leb, lt-leb}
 use Rattle.kinds.specs.declared.Verdict.{Verdict}
 use Rattle.kinds.specs.declared.Verdict.the-variants.{Fine, Refused}
-use Rattle.kinds.specs.Slots.{threes}
+use Rattle.words.specs.Slots.{threes}
 use Rattle.rules.specs.Outcome.{Test, each, isCell}
 use Rattle.rules.specs.Verdicts.{verdict, andThen, verdict-none, verdict-each}
-use Rattle.kinds.specs.WordLaws.{threes-step, threes-done}
+use Rattle.words.specs.WordLaws.{threes-step, threes-done}
 
 -- a list of triples, tested in order
 module _ {A : Type 0} (mk : ℕ → ℕ → ℕ → A) (f : A → List Test) (t : List ℕ) (a k : ℕ) where

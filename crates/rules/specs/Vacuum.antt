@@ -7,9 +7,9 @@ use lib.Dec.{ltb}
 use Rattle.kinds.specs.declared.ReadAnswer.the-variants.{None}
 use Rattle.kinds.specs.declared.Answer.{Answer}
 use Rattle.kinds.specs.declared.Answer.the-variants.{Vacuumed}
-use Rattle.kinds.specs.Sizes.{Sizes}
+use Rattle.words.specs.Sizes.{Sizes}
 use Rattle.rules.specs.Numbers.{resultFull, damaged}
-use Rattle.kinds.specs.Lists.{keep, fold}
+use Rattle.words.specs.Lists.{keep, fold}
 use Rattle.kinds.specs.Versions.{withNext, valueOf, versionAt, putVersion, reclaimable}
 use Rattle.rules.specs.Memory.{Mem, sizeN, headAt, withCells}
 use Rattle.rules.specs.Chain.{After, ends, goesOn, broken, chain}

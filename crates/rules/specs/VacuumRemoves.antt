@@ -11,7 +11,7 @@ use Rattle.kinds.specs.declared.Version.{Version}
 use Rattle.kinds.specs.declared.ReadAnswer.the-variants.{None}
 use Rattle.kinds.specs.declared.Answer.{Answer}
 use Rattle.kinds.specs.declared.Answer.the-variants.{Vacuumed}
-use Rattle.kinds.specs.Sizes.{Sizes, CELLS, FREE}
+use Rattle.words.specs.Sizes.{Sizes, CELLS, FREE}
 use Rattle.kinds.specs.Versions.{withNext, valueOf, emptyVersion, versionOf, cellAt, versionAt, linkAt}
 use Rattle.rules.specs.Memory.{Mem, sizeR, sizeN, headAt, withCells}
 use Rattle.rules.specs.Chain.{ends, chained}

@@ -10,10 +10,10 @@ use borrow.Author.Tests.{eqb-true, not-false, ne-eqb, leb-false}
 use Rattle.kinds.specs.declared.Answer.{Answer}
 use Rattle.kinds.specs.declared.Answer.the-variants.{Done}
 use Rattle.kinds.specs.declared.Version.{Version}
-use Rattle.kinds.specs.Sizes.{Sizes}
-use Rattle.kinds.specs.Lists.{has}
+use Rattle.words.specs.Sizes.{Sizes}
+use Rattle.words.specs.Lists.{has}
 use Rattle.kinds.specs.Versions.{at, versionAt}
-use Rattle.kinds.specs.Slots.{Slot, Rec, Write}
+use Rattle.words.specs.Slots.{Slot, Rec, Write}
 use Rattle.rules.specs.Memory.{Mem, slotAt}
 use Rattle.kinds.specs.Visible.{conflict}
 use Rattle.rules.specs.Outcome.{Test, each, slotTests, Outcome, refuse}

@@ -5,10 +5,10 @@ use mathlib.Core.Option.{some}
 use lib.ListN.{replicate}
 use Rattle.kinds.specs.declared.ReadAnswer.the-variants.{Key}
 use Rattle.kinds.specs.declared.Answer.the-variants.{Done, Begun, Wrote, Vacuumed, Listed, Refused}
-use Rattle.kinds.specs.Sizes.{base, lastId}
-use Rattle.kinds.specs.Lists.{has, keep, first, last, fold, least, greatest, from}
+use Rattle.words.specs.Sizes.{base, lastId}
+use Rattle.words.specs.Lists.{has, keep, first, last, fold, least, greatest, from}
 use Rattle.kinds.specs.Versions.{tx, at, versionOf, wordsOf, cellAt, putCell}
-use Rattle.kinds.specs.Slots.{words, threes, slotOf, push, opened}
+use Rattle.words.specs.Slots.{words, threes, slotOf, push, opened}
 use Rattle.rules.specs.Memory.{Mem, mem}
 use Rattle.kinds.specs.Visible.{creatorVisible, visible, conflict}
 use Rattle.rules.specs.Chain.{chain, look}

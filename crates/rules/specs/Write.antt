@@ -7,11 +7,11 @@ use lib.ListN.{getD, set}
 use lib.Dec.{eqb, ltb, leb}
 use Rattle.kinds.specs.declared.Answer.{Answer}
 use Rattle.kinds.specs.declared.Answer.the-variants.{Wrote}
-use Rattle.kinds.specs.Sizes.{Sizes, FREE, WRITES}
+use Rattle.words.specs.Sizes.{Sizes, FREE, WRITES}
 use Rattle.rules.specs.Numbers.{rowLocked, writeConflict, noRoom, writeSetFull, damaged}
-use Rattle.kinds.specs.Lists.{nonzero}
+use Rattle.words.specs.Lists.{nonzero}
 use Rattle.kinds.specs.Versions.{at, lockedFor, lockedByOther, withValue, newVersion, versionAt, linkAt, putCell, putVersion}
-use Rattle.kinds.specs.Slots.{Write, write, Slot, addWrite}
+use Rattle.words.specs.Slots.{Write, write, Slot, addWrite}
 use Rattle.rules.specs.Memory.{Mem, mem, sizeN, free, headAt, wordsAt, slotAt, withCells}
 use Rattle.kinds.specs.Visible.{visible}
 use Rattle.rules.specs.Outcome.{Outcome, out, Test, test, guard, refuse, slotTests, rowTest, isCell}

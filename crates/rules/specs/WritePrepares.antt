@@ -10,10 +10,10 @@ use lib.ListN.{length}
 use lib.Seq.{getD-set-same}
 use borrow.Author.Tests.{eq-eqb, ne-eqb}
 use Rattle.kinds.specs.declared.Answer.{Answer}
-use Rattle.kinds.specs.Sizes.{Sizes}
+use Rattle.words.specs.Sizes.{Sizes}
 use Rattle.rules.specs.Theory.Cases.{byEq, byLe}
 use Rattle.kinds.specs.Versions.{lockedFor, newVersion, versionOf, cellAt, versionAt, linkAt, putCell}
-use Rattle.kinds.specs.Slots.{Write, write, addWrite}
+use Rattle.words.specs.Slots.{Write, write, addWrite}
 use Rattle.rules.specs.Memory.{Mem, sizeN, free, headAt, wordsAt, slotAt}
 use Rattle.rules.specs.Outcome.{Outcome}
 use Rattle.rules.specs.Read.{own}

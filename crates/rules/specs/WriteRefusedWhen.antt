@@ -6,7 +6,7 @@ use mathlib.Core.Path.{_≡_, refl}
 use mathlib.Core.Logic.{_≢_, _↔_, Iff·trans, Iff·and, inl, inr}
 use native.Mathlib.Omega.{arith}
 use Rattle.kinds.specs.declared.Answer.{Answer}
-use Rattle.kinds.specs.Sizes.{Sizes, WRITES}
+use Rattle.words.specs.Sizes.{Sizes, WRITES}
 use Rattle.rules.specs.Numbers.{rowLocked, writeConflict, noRoom, writeSetFull}
 use Rattle.rules.specs.Theory.Cases.{byBool, byLe}
 use Rattle.rules.specs.Memory.{Mem, sizeN, free, headAt, slotAt}

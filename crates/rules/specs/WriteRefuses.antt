@@ -11,11 +11,11 @@ use lib.Dec.{leb, eqb, ltb}
 use Rattle.kinds.specs.declared.Version.{Version}
 use Rattle.kinds.specs.declared.Answer.{Answer}
 use Rattle.kinds.specs.declared.Answer.the-variants.{Wrote}
-use Rattle.kinds.specs.Sizes.{Sizes, WRITES}
+use Rattle.words.specs.Sizes.{Sizes, WRITES}
 use Rattle.rules.specs.Numbers.{rowLocked, writeConflict, noRoom, writeSetFull, damaged}
 use Rattle.rules.specs.Theory.Cases.{byBool}
 use Rattle.kinds.specs.Versions.{at, versionAt}
-use Rattle.kinds.specs.Slots.{Write}
+use Rattle.words.specs.Slots.{Write}
 use Rattle.rules.specs.Memory.{Mem, sizeN, free, headAt, wordsAt, slotAt}
 use Rattle.rules.specs.Outcome.{Outcome, out, Test, test, guard, slotTests, rowTest, isCell}
 use Rattle.rules.specs.Read.{own}

@@ -11,8 +11,8 @@ use lib.ListN.{length, getD, take, drop, length-take, drop-of-length-le}
 use lib.Seq.{drop-cons, getD-take}
 use lib.Dec.{eqb}
 use borrow.Author.Tests.{eq-eqb, ne-eqb, eqb-true, eqb-false}
-use Rattle.kinds.specs.Sizes.{ID, lastId}
-use Rattle.kinds.specs.Lists.{least, greatest}
+use Rattle.words.specs.Sizes.{ID, lastId}
+use Rattle.words.specs.Lists.{least, greatest}
 use Rattle.rules.specs.Snapshot.{occupied, vacant, snapTop}
 
 byBool {ℓ} : {C : Type ℓ} (b : Bool) → (b ≡ true → C) → (b ≡ false → C) → C

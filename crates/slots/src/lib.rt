@@ -1,17 +1,17 @@
 // The snapshot rule of Begin and the horizon, over the arena of slots. An arena may be of any length: the first SLOTS entries are the
 // slots, what lies beyond them counts for nothing.
-use kinds::ID;
-use kinds::LAST_ID;
-use kinds::LOW;
-use kinds::SLOTS;
-use kinds::WIDTH;
+use words::ID;
+use words::LAST_ID;
+use words::LOW;
+use words::SLOTS;
+use words::WIDTH;
 ghost use mathlib.Core.Path.{_≡_};
 ghost use mathlib.Core.List.{[], _∷_};
 ghost use Prim.Native.Nat.{min, max, _≤_, _<_};
 ghost use lib.ListN.{length, take};
-ghost use Rattle.kinds.specs.Sizes.{base};
-ghost use Rattle.kinds.specs.Sizes as words;
-ghost use Rattle.kinds.specs.Lists.{least, greatest};
+ghost use Rattle.words.specs.Sizes.{base};
+ghost use Rattle.words.specs.Sizes as words;
+ghost use Rattle.words.specs.Lists.{least, greatest};
 ghost use Rattle.rules.specs.Snapshot.{occupied, vacant, snapLow, snapTop, horizonOf};
 ghost use Rattle.slots.specs.OccupiedLaws.{topOver};
 

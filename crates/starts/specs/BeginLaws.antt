@@ -8,7 +8,7 @@ use borrow.Author.Tests.{le-leb, lt-leb, eq-eqb, ne-eqb}
 use lib.Dec.{eqb, leb}
 use Rattle.kinds.specs.declared.Answer.{Answer}
 use Rattle.kinds.specs.declared.Answer.the-variants.{Begun}
-use Rattle.kinds.specs.Sizes.{base, CLOCK, lastId}
+use Rattle.words.specs.Sizes.{base, CLOCK, lastId}
 use Rattle.rules.specs.Numbers.{clockSpent, noFreeSlot}
 use Rattle.kinds.specs.Versions.{tx}
 use Rattle.rules.specs.Memory.{Mem, mem, clock}

@@ -6,9 +6,9 @@ use mathlib.Core.Path.{_≡_}
 use lib.ListN.{replicate}
 use lib.Seq.{sets}
 use Rattle.kinds.specs.declared.Answer.the-variants.{Done}
-use Rattle.kinds.specs.Sizes.{Sizes}
+use Rattle.words.specs.Sizes.{Sizes}
 use Rattle.rules.specs.Numbers.{badSize}
-use Rattle.kinds.specs.Slots.{emptied}
+use Rattle.words.specs.Slots.{emptied}
 use Rattle.rules.specs.Memory.{Mem, mem}
 use Rattle.rules.specs.Outcome.{out, guard, refuse, fits}
 use Rattle.rules.specs.Create.{freshCells, created, createOut}

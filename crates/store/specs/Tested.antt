@@ -4,7 +4,7 @@ use mathlib.Core.List.{List}
 use mathlib.Core.Path.{_≡_, refl, sym, ap, _∙_}
 use lib.Seq.{sets}
 use Rattle.kinds.specs.declared.Answer.{Answer}
-use Rattle.kinds.specs.Sizes.{Sizes}
+use Rattle.words.specs.Sizes.{Sizes}
 use Rattle.rules.specs.Memory.{Mem}
 use Rattle.kinds.specs.declared.Verdict.{Verdict}
 use Rattle.rules.specs.Outcome.{Outcome, out, refuse, Test, guard}

@@ -3,12 +3,12 @@
 use gate::check_slot;
 use gate::check_store;
 use kinds::Answer;
-use kinds::CELL_WORDS;
 use kinds::ReadAnswer;
-use kinds::TxId;
 use kinds::Value;
 use kinds::Verdict;
-use kinds::WIDTH;
+use words::CELL_WORDS;
+use words::TxId;
+use words::WIDTH;
 ghost use mathlib.Core.Path.{_≡_};
 ghost use mathlib.Core.List.{[]};
 ghost use lib.ListN.{length};

@@ -7,13 +7,13 @@ use native.Mathlib.Omega.{arith}
 use lib.ListN.{length, getD}
 use borrow.Author.Tests.{ltb-false}
 use Rattle.kinds.specs.declared.Verdict.the-variants.{Fine, Refused}
-use Rattle.kinds.specs.Sizes.{Sizes, base}
-use Rattle.kinds.specs.Lists.{fold}
-use Rattle.kinds.specs.Slots.{Write, write, threes}
+use Rattle.words.specs.Sizes.{Sizes, base}
+use Rattle.words.specs.Lists.{fold}
+use Rattle.words.specs.Slots.{Write, write, threes}
 use Rattle.rules.specs.Memory.{Mem, mem, sizeN}
 use Rattle.rules.specs.Outcome.{Test, each}
 use Rattle.rules.specs.Verdicts.{verdict}
-use Rattle.kinds.specs.WordLaws.{threes-step, threes-done}
+use Rattle.words.specs.WordLaws.{threes-step, threes-done}
 use Rattle.rules.specs.Abort.{unlockBase, news, giveBack, abortTests}
 use Rattle.rules.specs.Theory.Bridge.{BasesIn, AllCells}
 use Rattle.rules.specs.Theory.CellLaws.{HasCell}

@@ -2,23 +2,23 @@
 use arena::give_back;
 use arena::put_version;
 use arena::version_at;
-use kinds::CELL_WORDS;
-use kinds::CELLS;
 use kinds::Cell;
-use kinds::DAMAGED;
-use kinds::MOST_WRITES;
-use kinds::TxId;
 use kinds::Verdict;
-use kinds::WIDTH;
-use kinds::WRITES;
+use words::CELL_WORDS;
+use words::CELLS;
+use words::DAMAGED;
+use words::MOST_WRITES;
+use words::TxId;
+use words::WIDTH;
+use words::WRITES;
 ghost use mathlib.Core.Path.{_≡_};
 ghost use mathlib.Core.List.{[], _∷_};
 ghost use Prim.Native.Nat.{min, _≤_};
 ghost use lib.ListN.{length, getD};
-ghost use Rattle.kinds.specs.Sizes.{base, metaWords};
-ghost use Rattle.kinds.specs.Sizes as words;
-ghost use Rattle.kinds.specs.Lists.{fold};
-ghost use Rattle.kinds.specs.Slots.{slotOf, write};
+ghost use Rattle.words.specs.Sizes.{base, metaWords};
+ghost use Rattle.words.specs.Sizes as words;
+ghost use Rattle.words.specs.Lists.{fold};
+ghost use Rattle.words.specs.Slots.{slotOf, write};
 ghost use Rattle.rules.specs.Outcome.{each};
 ghost use Rattle.rules.specs.Verdicts.{verdict};
 ghost use Rattle.rules.specs.Abort.{unlockBase, news, giveBack, abortTests};
@@ -66,7 +66,7 @@ pub fn check_abort(meta: &[u64], slot: &[u64; WIDTH]) -> Verdict
     ensures { λ r. ⌜ r ≡ verdict (each (abortTests (lent (now (meta .entry)) [])) (slotOf base (now (slot .entry)) .writes)) ⌝ }
 {
     let n = cell_count(meta);
-    let mut left = kinds::at_most(slot[WRITES], MOST_WRITES as u64);
+    let mut left = words::at_most(slot[WRITES], MOST_WRITES as u64);
     let mut a = WRITES + 1;
     while left > 0 {
         let found = check_entry(n, Cell(slot[a + 1]), Cell(slot[a + 2]));
@@ -100,7 +100,7 @@ pub fn unlock_all(cells: &mut [[u64; CELL_WORDS]], slot: &[u64; WIDTH], id: TxId
     requires { ⌜ BasesIn (now cells) (slotOf base (now slot) .writes) ⌝ }
     ensures { λ _. ⌜ now (cells .exit) ≡ fold (unlockBase (id .0)) (slotOf base (now (slot .entry)) .writes) (now (cells .entry)) ⌝ }
 {
-    let mut left = kinds::at_most(slot[WRITES], MOST_WRITES as u64);
+    let mut left = words::at_most(slot[WRITES], MOST_WRITES as u64);
     let mut a = WRITES + 1;
     while left > 0 {
         unlock_base(cells, Cell(slot[a + 1]), id);
@@ -116,7 +116,7 @@ pub fn give_all(meta: &mut [u64], cells: &mut [[u64; CELL_WORDS]], slot: &[u64; 
     ensures { λ _. ⌜ lent (now (meta .exit)) (now (cells .exit))
         ≡ fold giveBack (news (slotOf base (now (slot .entry)) .writes)) (lent (now (meta .entry)) (now (cells .entry))) ⌝ }
 {
-    let mut left = kinds::at_most(slot[WRITES], MOST_WRITES as u64);
+    let mut left = words::at_most(slot[WRITES], MOST_WRITES as u64);
     let mut a = WRITES + 1;
     while left > 0 {
         give_back(meta, cells, Cell(slot[a + 2]));

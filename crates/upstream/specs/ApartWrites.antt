@@ -6,8 +6,8 @@ use mathlib.Core.Path.{_≡_, refl, sym, ap, _∙_, subst}
 use mathlib.Core.Logic.{_≢_, inl, inr}
 use native.Mathlib.Omega.{arith}
 use borrow.Author.Tests.{eq-eqb, ne-eqb}
-use Rattle.kinds.specs.Sizes.{Sizes, Roomy}
-use Rattle.kinds.specs.Slots.{Slot, Write}
+use Rattle.words.specs.Sizes.{Sizes, Roomy}
+use Rattle.words.specs.Slots.{Slot, Write}
 use Rattle.rules.specs.Memory.{Mem, headAt, slotAt}
 use Rattle.rules.specs.Abort.{news}
 use Rattle.rules.specs.Lookup.{ownRows}

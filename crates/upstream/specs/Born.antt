@@ -8,9 +8,9 @@ use native.Mathlib.Omega.{arith}
 use lib.ListN.{getD}
 use borrow.Author.Tests.{eq-eqb, ne-eqb}
 use Rattle.kinds.specs.declared.Version.{Version}
-use Rattle.kinds.specs.Lists.{fold}
+use Rattle.words.specs.Lists.{fold}
 use Rattle.kinds.specs.Versions.{withXmax, withLock, emptyVersion}
-use Rattle.kinds.specs.Slots.{Slot, Write}
+use Rattle.words.specs.Slots.{Slot, Write}
 use Rattle.rules.specs.Reachable.{All}
 use Rattle.rules.specs.Theory.Cases.{byEq}
 use Rattle.rules.specs.Theory.View.{View, upd, upd-same, upd-other}

@@ -14,12 +14,12 @@ use borrow.Author.Tests.{leb-false, ltb-true, ltb-false, eqb-false, eq-eqb, ne-e
 use Rattle.kinds.specs.declared.Answer.{Answer}
 use Rattle.kinds.specs.declared.ReadAnswer.{ReadAnswer}
 use Rattle.kinds.specs.declared.Version.{Version}
-use Rattle.kinds.specs.Sizes.{Sizes, lastId, READS, WRITES}
+use Rattle.words.specs.Sizes.{Sizes, lastId, READS, WRITES}
 use Rattle.rules.specs.Numbers.{clockSpent, noFreeSlot, damaged}
-use Rattle.kinds.specs.Lists.{fold, keep, least}
+use Rattle.words.specs.Lists.{fold, keep, least}
 use Rattle.kinds.specs.Versions.{versionAt, version, withNext, withValue, emptyVersion, keyedOf, keyOf}
-use Rattle.kinds.specs.Slots.{Slot, Write, Rec, addRecs, emptied, slotOf}
-use Rattle.kinds.specs.Slots as S
+use Rattle.words.specs.Slots.{Slot, Write, Rec, addRecs, emptied, slotOf}
+use Rattle.words.specs.Slots as S
 use Rattle.rules.specs.Memory.{Mem, sizeR, sizeN, clock, free, headAt, wordsAt, slotAt, withSlot, withCells}
 use Rattle.rules.specs.Chain.{ends}
 use Rattle.rules.specs.Snapshot.{vacant, horizon, snapLow, snapTop}

@@ -7,7 +7,7 @@ use mathlib.Core.Path.{_≡_, refl, sym, ap, _∙_, subst}
 use mathlib.Core.Logic.{_≢_, inl, inr}
 use native.Mathlib.Omega.{arith}
 use Rattle.kinds.specs.declared.Version.{Version}
-use Rattle.kinds.specs.Lists.{first}
+use Rattle.words.specs.Lists.{first}
 use Rattle.rules.specs.Theory.Cases.{byBool, no-both}
 use Rattle.rules.specs.Exactly.{In, All, all-map}
 use Rattle.rules.specs.Along.{Along}

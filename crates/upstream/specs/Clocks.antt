@@ -9,7 +9,7 @@ use native.Mathlib.Omega.{arith}
 use borrow.Author.Tests.{not-false}
 use Rattle.kinds.specs.declared.Answer.{Answer}
 use Rattle.kinds.specs.declared.Answer.the-variants.{Done}
-use Rattle.kinds.specs.Sizes.{Sizes, Roomy, lastId}
+use Rattle.words.specs.Sizes.{Sizes, Roomy, lastId}
 use Rattle.rules.specs.Numbers.{badSize}
 use Rattle.rules.specs.Memory.{Mem, clock}
 use Rattle.rules.specs.Outcome.{Outcome, refuse, test, fits}

@@ -11,11 +11,11 @@ use Rattle.kinds.specs.declared.Answer.{Answer}
 use Rattle.kinds.specs.declared.Answer.the-variants.{Begun, Wrote, Done}
 use Rattle.kinds.specs.declared.ReadAnswer.{ReadAnswer}
 use Rattle.kinds.specs.declared.ReadAnswer.the-variants.{Key}
-use Rattle.kinds.specs.Sizes.{base, lastId}
-use Rattle.kinds.specs.Lists.{last, fold, has, keep, first, least, greatest, from}
+use Rattle.words.specs.Sizes.{base, lastId}
+use Rattle.words.specs.Lists.{last, fold, has, keep, first, least, greatest, from}
 use Rattle.kinds.specs.Versions.{at, tx, versionOf, wordsOf, cellAt, putCell, versionAt, version, lockedFor, lockedByOther}
-use Rattle.kinds.specs.Slots.{words, threes, slotOf, push, opened, rec}
-use Rattle.kinds.specs.Slots as S
+use Rattle.words.specs.Slots.{words, threes, slotOf, push, opened, rec}
+use Rattle.words.specs.Slots as S
 use Rattle.rules.specs.Memory.{Mem, mem, clock, free, slotAt}
 use Rattle.kinds.specs.Visible.{creatorVisible, visible, conflict}
 use Rattle.rules.specs.Chain.{look, chain}

@@ -10,10 +10,10 @@ use lib.ListN.{getD}
 use lib.Seq.{getD-set-other}
 use borrow.Author.Tests.{ne-eqb, le-leb}
 use Rattle.kinds.specs.declared.Answer.{Answer}
-use Rattle.kinds.specs.Sizes.{Sizes, Roomy}
-use Rattle.kinds.specs.Lists.{fold}
+use Rattle.words.specs.Sizes.{Sizes, Roomy}
+use Rattle.words.specs.Lists.{fold}
 use Rattle.kinds.specs.Versions.{versionAt, versionOf, lockedFor, newVersion, putCell}
-use Rattle.kinds.specs.Slots.{emptied}
+use Rattle.words.specs.Slots.{emptied}
 use Rattle.rules.specs.Memory.{Mem, sizeR, sizeN, free, headAt, wordsAt, slotAt, withCells}
 use Rattle.rules.specs.Chain.{Chain}
 use Rattle.rules.specs.Outcome.{Outcome, refuse, slotTests, each}

@@ -6,8 +6,8 @@ use mathlib.Core.Path.{_≡_, refl, sym}
 use mathlib.Core.Logic.{_≢_}
 use native.Mathlib.Omega.{arith}
 use lib.ListN.{length, take, getD}
-use Rattle.kinds.specs.Sizes.{Sizes, ID, LOW}
-use Rattle.kinds.specs.Lists.{least}
+use Rattle.words.specs.Sizes.{Sizes, ID, LOW}
+use Rattle.words.specs.Lists.{least}
 use Rattle.rules.specs.Memory.{Mem, clock}
 use Rattle.rules.specs.Snapshot.{occupied, horizonOf, horizon}
 use Rattle.rules.specs.Horizon.{least-at-most, least-at-most-each, occupied-exactly}

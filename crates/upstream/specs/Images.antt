@@ -5,9 +5,9 @@ use mathlib.Core.List.{List}
 use mathlib.Core.Logic.{_≢_, _⊎_}
 use mathlib.Core.Path.{_≡_}
 use Rattle.kinds.specs.declared.Version.{Version}
-use Rattle.kinds.specs.Sizes.{Sizes}
+use Rattle.words.specs.Sizes.{Sizes}
 use Rattle.kinds.specs.Versions.{versionAt}
-use Rattle.kinds.specs.Slots.{Slot}
+use Rattle.words.specs.Slots.{Slot}
 use Rattle.rules.specs.Memory.{Mem, sizeR, sizeN, headAt, slotAt}
 use Rattle.rules.specs.Outcome.{isCell}
 

@@ -12,9 +12,9 @@ use lib.Seq.{getD-set-same, getD-set-other, take-suc}
 use borrow.Author.Tests.{eq-eqb, ne-eqb, ltb-true, ltb-false, le-ltb}
 use Rattle.kinds.specs.declared.Answer.{Answer}
 use Rattle.kinds.specs.declared.Answer.the-variants.{Done}
-use Rattle.kinds.specs.Sizes.{Sizes, Roomy, lastId, ID, LOW}
-use Rattle.kinds.specs.Lists.{least, greatest}
-use Rattle.kinds.specs.Slots.{slotOf}
+use Rattle.words.specs.Sizes.{Sizes, Roomy, lastId, ID, LOW}
+use Rattle.words.specs.Lists.{least, greatest}
+use Rattle.words.specs.Slots.{slotOf}
 use Rattle.rules.specs.Memory.{Mem, sizeN, clock, wordsAt, slotAt}
 use Rattle.rules.specs.Snapshot.{occupied, snapLow, snapTop, horizonOf, horizon}
 use Rattle.rules.specs.Horizon.{least-at-most}

@@ -7,7 +7,7 @@ use mathlib.Core.Logic.{_≢_}
 use mathlib.Core.Path.{_≡_}
 use lib.Dec.{eqb, ltb}
 use lib.ListN.{getD, length}
-use Rattle.kinds.specs.Sizes.{Sizes, lastId, ID, LOW}
+use Rattle.words.specs.Sizes.{Sizes, lastId, ID, LOW}
 use Rattle.rules.specs.Memory.{Mem, clock, slotAt}
 
 -- the id and the snapshot xmin of slot i

@@ -8,7 +8,7 @@ use mathlib.Core.Option.{Option, none, some}
 use mathlib.Core.Path.{_≡_}
 use native.Mathlib.Omega.{arith}
 use Rattle.kinds.specs.Versions.{lockedByOther}
-use Rattle.kinds.specs.Slots.{Slot}
+use Rattle.words.specs.Slots.{Slot}
 use Rattle.rules.specs.Theory.Cases.{byBool}
 use Rattle.upstream.specs.Images.{Image}
 use Rattle.upstream.specs.Transactions.{valueAt, valueOf}

@@ -11,9 +11,9 @@ use lib.ListN.{length, length-append}
 use lib.Seq.{getD-set-same}
 use borrow.Author.Tests.{eq-eqb, ne-eqb, eqb-true}
 use Rattle.kinds.specs.declared.Answer.{Answer}
-use Rattle.kinds.specs.Sizes.{Sizes, Roomy}
-use Rattle.kinds.specs.Lists.{has, keep, from}
-use Rattle.kinds.specs.Slots.{Slot, Rec, addRecs, slotOf}
+use Rattle.words.specs.Sizes.{Sizes, Roomy}
+use Rattle.words.specs.Lists.{has, keep, from}
+use Rattle.words.specs.Slots.{Slot, Rec, addRecs, slotOf}
 use Rattle.rules.specs.Memory.{Mem, wordsAt, slotAt, withSlot}
 use Rattle.rules.specs.Outcome.{Outcome, out, Test, refuse, slotTests, each}
 use Rattle.rules.specs.Lookup.{isKey, Found, stopped, got, lookupEnd, lookupOut, lookupAllOut, candidateTests}

@@ -12,10 +12,10 @@ use lib.Dec.{eqb, ltb, leb}
 use borrow.Author.Tests.{eq-eqb, ne-eqb, lt-ltb, le-leb}
 use Rattle.kinds.specs.declared.Version.{Version}
 use Rattle.kinds.specs.declared.Answer.{Answer}
-use Rattle.kinds.specs.Sizes.{Sizes}
-use Rattle.kinds.specs.Lists.{first, has}
+use Rattle.words.specs.Sizes.{Sizes}
+use Rattle.words.specs.Lists.{first, has}
 use Rattle.kinds.specs.Versions.{version, newVersion, withXmax, withNext, unlocked, versionOf, versionAt}
-use Rattle.kinds.specs.Slots.{Slot}
+use Rattle.words.specs.Slots.{Slot}
 use Rattle.rules.specs.Memory.{Mem, sizeN, headAt, slotAt}
 use Rattle.rules.specs.Outcome.{Outcome}
 use Rattle.rules.specs.Commit.{commitOut}

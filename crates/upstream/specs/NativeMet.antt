@@ -11,9 +11,9 @@ use Rattle.kinds.specs.declared.Answer.{Answer}
 use Rattle.kinds.specs.declared.Answer.the-variants.{Wrote, Vacuumed}
 use Rattle.kinds.specs.declared.ReadAnswer.{ReadAnswer}
 use Rattle.kinds.specs.declared.ReadAnswer.the-variants.{Key}
-use Rattle.kinds.specs.Sizes.{base, lastId}
+use Rattle.words.specs.Sizes.{base, lastId}
 use Rattle.kinds.specs.Versions.{at, emptyVersion, versionAt}
-use Rattle.kinds.specs.Slots.{Slot, rec, addRecs}
+use Rattle.words.specs.Slots.{Slot, rec, addRecs}
 use Rattle.rules.specs.Memory.{sizeN, wordsAt, slotAt, withSlot}
 use Rattle.kinds.specs.Visible.{conflict}
 use Rattle.rules.specs.Outcome.{out}

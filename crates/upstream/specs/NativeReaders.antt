@@ -7,10 +7,10 @@ use mathlib.Core.Logic.{_≢_, inl}
 use native.Mathlib.Omega.{arith}
 use Rattle.kinds.specs.declared.Answer.the-variants.{Vacuumed}
 use Rattle.kinds.specs.declared.ReadAnswer.the-variants.{Key}
-use Rattle.kinds.specs.Sizes.{lastId}
-use Rattle.kinds.specs.Lists.{last, fold, has, keep, first, least, greatest, from}
+use Rattle.words.specs.Sizes.{lastId}
+use Rattle.words.specs.Lists.{last, fold, has, keep, first, least, greatest, from}
 use Rattle.kinds.specs.Versions.{versionOf, wordsOf, cellAt, putCell}
-use Rattle.kinds.specs.Slots.{words, threes, slotOf, push, opened}
+use Rattle.words.specs.Slots.{words, threes, slotOf, push, opened}
 use Rattle.rules.specs.Memory.{headAt, slotAt}
 use Rattle.kinds.specs.Visible.{creatorVisible, visible, conflict}
 use Rattle.rules.specs.Chain.{look, chain}
@@ -36,7 +36,7 @@ use Rattle.upstream.specs.Protected.{sees01}
 use Rattle.upstream.specs.Safe.{Safe, reader-without-writes-is-admissible, vacuum-row-acquired-is-safe}
 use Rattle.upstream.specs.PreparedWrites.{open-write-is-prepared, reader-with-a-write-is-not-admissible}
 use Rattle.upstream.specs.NativeRun.{lent, toWritten, written, story}
-use Rattle.kinds.specs.Slots as S
+use Rattle.words.specs.Slots as S
 
 abbrev replies : List Reply
 replies = run toWritten (createOut lent 4 2 .after) .0

@@ -9,10 +9,10 @@ use native.Mathlib.Omega.{arith}
 use lib.ListN.{replicate}
 use Rattle.kinds.specs.declared.Answer.the-variants.{Done, Begun, Wrote, Vacuumed, Refused}
 use Rattle.kinds.specs.declared.ReadAnswer.the-variants.{Key, Empty, None}
-use Rattle.kinds.specs.Sizes.{base, lastId}
-use Rattle.kinds.specs.Lists.{last, fold, has, keep, first, least, greatest, from}
+use Rattle.words.specs.Sizes.{base, lastId}
+use Rattle.words.specs.Lists.{last, fold, has, keep, first, least, greatest, from}
 use Rattle.kinds.specs.Versions.{at, tx, version, newVersion, emptyVersion, versionOf, wordsOf, cellAt, versionAt, linkAt, putCell}
-use Rattle.kinds.specs.Slots.{words, threes, slotOf, push, opened}
+use Rattle.words.specs.Slots.{words, threes, slotOf, push, opened}
 use Rattle.rules.specs.Memory.{Mem, mem, sizeN, free, headAt, slotAt}
 use Rattle.kinds.specs.Visible.{creatorVisible, visible, conflict}
 use Rattle.rules.specs.Chain.{look, chain}
@@ -32,7 +32,7 @@ use Rattle.upstream.specs.Images.{imageOf, snapshot}
 use Rattle.upstream.specs.Story.{Layout, Distinct, OldReader, published, pruned, reused, Agree, AgreeButTail}
 use Rattle.upstream.specs.Native.{Seeded, Inside}
 use Rattle.upstream.specs.Publication.{publicationPrefix}
-use Rattle.kinds.specs.Slots as S
+use Rattle.words.specs.Slots as S
 use Rattle.upstream.specs.Seen as Up
 
 abbrev pub lent : Mem base

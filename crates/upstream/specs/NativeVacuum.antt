@@ -11,9 +11,9 @@ use Rattle.kinds.specs.declared.Version.{Version}
 use Rattle.kinds.specs.declared.Answer.{Answer}
 use Rattle.kinds.specs.declared.Answer.the-variants.{Vacuumed}
 use Rattle.kinds.specs.declared.ReadAnswer.the-variants.{Key}
-use Rattle.kinds.specs.Sizes.{Sizes, CELLS}
+use Rattle.words.specs.Sizes.{Sizes, CELLS}
 use Rattle.kinds.specs.Versions.{version, newVersion, withNext, lockedFor, emptyVersion, versionOf, versionAt}
-use Rattle.kinds.specs.Slots.{Slot, rec, addRecs}
+use Rattle.words.specs.Slots.{Slot, rec, addRecs}
 use Rattle.rules.specs.Memory.{Mem, sizeN, free, headAt, wordsAt, slotAt, withSlot}
 use Rattle.kinds.specs.Visible.{conflict}
 use Rattle.rules.specs.Snapshot.{horizon}

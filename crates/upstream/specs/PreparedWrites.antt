@@ -9,10 +9,10 @@ use native.Mathlib.Omega.{arith}
 use lib.Dec.{eqb}
 use borrow.Author.Tests.{not-false, eq-eqb, ne-eqb}
 use Rattle.kinds.specs.declared.Version.{Version}
-use Rattle.kinds.specs.Sizes.{Sizes, Roomy}
-use Rattle.kinds.specs.Lists.{from}
+use Rattle.words.specs.Sizes.{Sizes, Roomy}
+use Rattle.words.specs.Lists.{from}
 use Rattle.kinds.specs.Versions.{versionAt}
-use Rattle.kinds.specs.Slots.{Write, Slot}
+use Rattle.words.specs.Slots.{Write, Slot}
 use Rattle.rules.specs.Memory.{Mem, sizeN, headAt, slotAt}
 use Rattle.rules.specs.Chain.{ends}
 use Rattle.rules.specs.Abort.{news}

@@ -8,8 +8,8 @@ use native.Mathlib.Omega.{arith}
 use lib.Dec.{leb}
 use borrow.Author.Tests.{ne-eqb, lt-leb}
 use Rattle.kinds.specs.declared.Version.{Version}
-use Rattle.kinds.specs.Lists.{has}
-use Rattle.kinds.specs.Slots.{Slot}
+use Rattle.words.specs.Lists.{has}
+use Rattle.words.specs.Slots.{Slot}
 use Rattle.kinds.specs.Visible as Here
 use Rattle.rules.specs.Exactly.{In, is-in, fails-false}
 use Rattle.rules.specs.Terms.{is-seen}

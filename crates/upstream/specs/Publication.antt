@@ -8,7 +8,7 @@ use mathlib.Core.Path.{_≡_}
 use lib.Dec.{eqb}
 use Rattle.kinds.specs.declared.Version.{Version}
 use Rattle.kinds.specs.Versions.{withXmax, withNext, unlocked}
-use Rattle.kinds.specs.Slots.{Write}
+use Rattle.words.specs.Slots.{Write}
 use Rattle.rules.specs.Exactly.{In}
 use Rattle.upstream.specs.Images.{Image, ImageValid, stored}
 

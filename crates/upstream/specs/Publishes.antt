@@ -10,9 +10,9 @@ use lib.ListN.{getD}
 use borrow.Author.Tests.{eq-eqb, ne-eqb}
 use Rattle.kinds.specs.declared.Version.{Version}
 use Rattle.kinds.specs.declared.Answer.{Answer}
-use Rattle.kinds.specs.Sizes.{Sizes, ROWS, CELLS}
+use Rattle.words.specs.Sizes.{Sizes, ROWS, CELLS}
 use Rattle.kinds.specs.Versions.{withXmax, withNext, unlocked, versionOf, versionAt}
-use Rattle.kinds.specs.Slots.{Write}
+use Rattle.words.specs.Slots.{Write}
 use Rattle.rules.specs.Memory.{Mem, slotAt}
 use Rattle.rules.specs.Outcome.{Outcome}
 use Rattle.rules.specs.Commit.{commitOut}

@@ -7,9 +7,9 @@ use mathlib.Core.Path.{_≡_, refl, sym, ap, _∙_, subst}
 use mathlib.Core.Logic.{_≢_, inl, inr}
 use lib.ListN.{getD}
 use Rattle.kinds.specs.declared.Version.{Version}
-use Rattle.kinds.specs.Sizes.{Sizes, Roomy, ROWS, CELLS}
+use Rattle.words.specs.Sizes.{Sizes, Roomy, ROWS, CELLS}
 use Rattle.kinds.specs.Versions.{withXmax, withNext, unlocked, versionOf}
-use Rattle.kinds.specs.Slots.{Write}
+use Rattle.words.specs.Slots.{Write}
 use Rattle.rules.specs.Memory.{Mem, headAt, slotAt}
 use Rattle.rules.specs.Read.{own}
 use Rattle.rules.specs.Commit.{commitOut}

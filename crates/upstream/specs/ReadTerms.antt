@@ -7,8 +7,8 @@ use mathlib.Core.Option.{Option, none, some}
 use mathlib.Core.Path.{_≡_}
 use lib.Dec.{eqb, leb}
 use Rattle.kinds.specs.declared.Version.{Version}
-use Rattle.kinds.specs.Lists.{nonzero, has}
-use Rattle.kinds.specs.Slots.{Slot, Rec, rec}
+use Rattle.words.specs.Lists.{nonzero, has}
+use Rattle.words.specs.Slots.{Slot, Rec, rec}
 use Rattle.rules.specs.Read.{recorded}
 use Rattle.rules.specs.Reachable.{In}
 use Rattle.upstream.specs.Images.{Image, stored, snapshot}

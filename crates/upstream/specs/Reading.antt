@@ -14,11 +14,11 @@ use borrow.Author.Tests.{eq-eqb, ne-eqb, le-leb, lt-leb, ltb-true, ltb-false, le
 use Rattle.kinds.specs.declared.Version.{Version}
 use Rattle.kinds.specs.declared.ReadAnswer.{ReadAnswer}
 use Rattle.kinds.specs.declared.ReadAnswer.the-variants.{None}
-use Rattle.kinds.specs.Sizes.{Sizes, Roomy}
+use Rattle.words.specs.Sizes.{Sizes, Roomy}
 use Rattle.rules.specs.Numbers.{chainTooLong, readSetFull, damaged}
-use Rattle.kinds.specs.Lists.{nonzero, first, last, orElse}
+use Rattle.words.specs.Lists.{nonzero, first, last, orElse}
 use Rattle.kinds.specs.Versions.{versionAt}
-use Rattle.kinds.specs.Slots.{Slot, Write, Rec, rec, addRecs, slotOf}
+use Rattle.words.specs.Slots.{Slot, Write, Rec, rec, addRecs, slotOf}
 use Rattle.rules.specs.Memory.{Mem, sizeN, headAt, wordsAt, slotAt, withSlot}
 use Rattle.rules.specs.Chain.{Chain, chain, After, ends, goesOn, broken, Look, found, nothing, tooLong, harmed, lookOf, look}
 use Rattle.rules.specs.Outcome.{Outcome, refuseRead, slotTests, rowTest, isCell}

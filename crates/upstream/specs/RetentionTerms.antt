@@ -10,8 +10,8 @@ use lib.ListN.{getD}
 use Rattle.kinds.specs.declared.Version.{Version}
 use Rattle.kinds.specs.declared.ReadAnswer.{ReadAnswer}
 use Rattle.kinds.specs.declared.ReadAnswer.the-variants.{None, Empty, Key}
-use Rattle.kinds.specs.Sizes.{Sizes}
-use Rattle.kinds.specs.Lists.{nonzero, first}
+use Rattle.words.specs.Sizes.{Sizes}
+use Rattle.words.specs.Lists.{nonzero, first}
 use Rattle.kinds.specs.Versions.{emptyVersion}
 use Rattle.rules.specs.Memory.{Mem}
 use Rattle.rules.specs.Exactly.{In, All}

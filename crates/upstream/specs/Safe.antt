@@ -11,9 +11,9 @@ use native.Mathlib.Omega.{arith}
 use borrow.Author.Tests.{eq-eqb, ne-eqb}
 use Rattle.kinds.specs.declared.Version.{Version}
 use Rattle.kinds.specs.declared.Answer.{Answer}
-use Rattle.kinds.specs.Sizes.{Sizes, Roomy}
+use Rattle.words.specs.Sizes.{Sizes, Roomy}
 use Rattle.kinds.specs.Versions.{withNext, emptyVersion, versionAt, linkAt}
-use Rattle.kinds.specs.Slots.{Slot}
+use Rattle.words.specs.Slots.{Slot}
 use Rattle.rules.specs.Memory.{Mem, sizeN, free, headAt, slotAt}
 use Rattle.rules.specs.Chain.{After, ends, goesOn, broken}
 use Rattle.rules.specs.Snapshot.{horizon}

@@ -5,7 +5,7 @@ use mathlib.Core.List.{List, [], _∷_}
 use mathlib.Core.Option.{Option, none, some}
 use lib.Dec.{eqb, ltb, leb}
 use Rattle.kinds.specs.declared.Version.{Version}
-use Rattle.kinds.specs.Lists.{has}
+use Rattle.words.specs.Lists.{has}
 use Rattle.upstream.specs.Images.{Image, stored, Snapshot}
 
 -- `creator_visible`: the reader's own id, or below snapshot xmin, or below snapshot xmax and not active

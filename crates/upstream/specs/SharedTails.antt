@@ -8,8 +8,8 @@ use native.Mathlib.Omega.{arith}
 use lib.ListN.{replicate}
 use Rattle.kinds.specs.declared.Answer.the-variants.{Vacuumed}
 use Rattle.kinds.specs.declared.ReadAnswer.the-variants.{Key}
-use Rattle.kinds.specs.Sizes.{Sizes, Roomy, base, lastId}
-use Rattle.kinds.specs.Lists.{keep, first, fold, least}
+use Rattle.words.specs.Sizes.{Sizes, Roomy, base, lastId}
+use Rattle.words.specs.Lists.{keep, first, fold, least}
 use Rattle.kinds.specs.Versions.{version, emptyVersion, wordsOf, versionOf, cellAt, versionAt, putCell}
 use Rattle.rules.specs.Memory.{Mem, mem}
 use Rattle.rules.specs.Chain.{chain}

@@ -13,11 +13,11 @@ use borrow.Author.Tests.{not-false, ne-eqb, le-leb, leb-true, eqb-false, not-tru
 use Rattle.kinds.specs.declared.Answer.{Answer}
 use Rattle.kinds.specs.declared.Answer.the-variants.{Done, Begun, Wrote, Vacuumed, Listed}
 use Rattle.kinds.specs.declared.Version.{Version}
-use Rattle.kinds.specs.Sizes.{Sizes, Roomy}
+use Rattle.words.specs.Sizes.{Sizes, Roomy}
 use Rattle.rules.specs.Numbers.{badSize}
-use Rattle.kinds.specs.Lists.{nonzero, has}
+use Rattle.words.specs.Lists.{nonzero, has}
 use Rattle.kinds.specs.Versions.{versionAt}
-use Rattle.kinds.specs.Slots.{Slot, Write}
+use Rattle.words.specs.Slots.{Slot, Write}
 use Rattle.rules.specs.Memory.{Mem, sizeR, sizeN, headAt, slotAt}
 use Rattle.rules.specs.Chain.{Chain, chain}
 use Rattle.rules.specs.Outcome.{Outcome, refuse, test, fits, isCell}

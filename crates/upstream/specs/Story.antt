@@ -7,13 +7,13 @@ use mathlib.Core.Path.{_≡_}
 use mathlib.Core.Logic.{_≢_, _⊎_}
 use lib.Dec.{eqb}
 use Rattle.kinds.specs.Versions.{version, newVersion, emptyVersion}
-use Rattle.kinds.specs.Slots.{Write}
+use Rattle.words.specs.Slots.{Write}
 use Rattle.rules.specs.Exactly.{In, All}
 use Rattle.upstream.specs.Images.{Image, Snapshot}
 use Rattle.upstream.specs.Seen.{creatorVisible}
 use Rattle.upstream.specs.Publication.{setRow, publicationPrefix}
 use Rattle.upstream.specs.RetentionTerms.{spliced}
-use Rattle.kinds.specs.Slots as S
+use Rattle.words.specs.Slots as S
 
 -- `Layout`: three cells
 pub record Layout : Type 0 where

@@ -7,10 +7,10 @@ use mathlib.Core.Option.{Option, none, some}
 use mathlib.Core.Path.{_≡_, refl, sym, ap, _∙_, subst}
 use lib.ListN.{getD}
 use Rattle.kinds.specs.declared.Version.{Version}
-use Rattle.kinds.specs.Sizes.{Sizes, Roomy}
-use Rattle.kinds.specs.Lists.{first}
+use Rattle.words.specs.Sizes.{Sizes, Roomy}
+use Rattle.words.specs.Lists.{first}
 use Rattle.kinds.specs.Versions.{versionAt}
-use Rattle.kinds.specs.Slots.{Slot, Write, Rec}
+use Rattle.words.specs.Slots.{Slot, Write, Rec}
 use Rattle.rules.specs.Memory.{Mem, headAt, slotAt}
 use Rattle.kinds.specs.Visible as ours
 use Rattle.rules.specs.Read.{own}

@@ -8,8 +8,8 @@ use lib.Dec.{eqb}
 use Rattle.kinds.specs.declared.Version.{Version}
 use Rattle.kinds.specs.declared.ReadAnswer.{ReadAnswer}
 use Rattle.kinds.specs.declared.ReadAnswer.the-variants.{None, Empty, Key}
-use Rattle.kinds.specs.Lists.{nonzero, orElse}
-use Rattle.kinds.specs.Slots.{Slot, Write}
+use Rattle.words.specs.Lists.{nonzero, orElse}
+use Rattle.words.specs.Slots.{Slot, Write}
 use Rattle.rules.specs.Reachable.{All}
 use Rattle.upstream.specs.Images.{Image, ImageValid, stored, snapshot}
 use Rattle.upstream.specs.Seen.{firstVisible}

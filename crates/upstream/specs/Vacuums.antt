@@ -8,11 +8,11 @@ use mathlib.Core.Path.{_≡_, refl, sym, ap, _∙_, subst}
 use mathlib.Core.Logic.{_≢_, _↔_, _⊎_, inl, inr, ⊎-elim}
 use native.Mathlib.Omega.{arith}
 use lib.ListN.{length, getD}
-use Rattle.kinds.specs.declared.TxId.{TxId}
+use Rattle.words.specs.declared.TxId.{TxId}
 use Rattle.kinds.specs.declared.Version.{Version}
 use Rattle.kinds.specs.declared.Answer.{Answer}
-use Rattle.kinds.specs.Sizes.{Sizes, ROWS, CELLS, FREE}
-use Rattle.kinds.specs.Lists.{nonzero, first}
+use Rattle.words.specs.Sizes.{Sizes, ROWS, CELLS, FREE}
+use Rattle.words.specs.Lists.{nonzero, first}
 use Rattle.kinds.specs.Versions.{at, valueOf, withNext, versionOf, cellAt, versionAt}
 use Rattle.rules.specs.Memory.{Mem, sizeR, sizeN, headAt, withCells}
 use Rattle.rules.specs.Chain.{ends, Chain, chain}

@@ -7,11 +7,11 @@ use mathlib.Core.Logic.{_≢_, _↔_}
 use mathlib.Core.Path.{_≡_, refl, sym, ap, _∙_}
 use Rattle.kinds.specs.declared.Answer.{Answer}
 use Rattle.kinds.specs.declared.Version.{Version}
-use Rattle.kinds.specs.Sizes.{Sizes, Roomy}
+use Rattle.words.specs.Sizes.{Sizes, Roomy}
 use Rattle.rules.specs.Numbers.{readConflict}
-use Rattle.kinds.specs.Lists.{nonzero}
+use Rattle.words.specs.Lists.{nonzero}
 use Rattle.kinds.specs.Versions.{versionAt}
-use Rattle.kinds.specs.Slots.{Slot, Write, Rec}
+use Rattle.words.specs.Slots.{Slot, Write, Rec}
 use Rattle.rules.specs.Memory.{Mem, sizeN, slotAt}
 use Rattle.kinds.specs.Visible as ours
 use Rattle.rules.specs.Outcome.{Outcome, Test, guard, each, refuse, slotTests, isCell}

@@ -7,10 +7,10 @@ use lib.ListN.{set, replicate}
 use lib.Seq.{sets}
 use Rattle.kinds.specs.declared.Answer.the-variants.{Done, Vacuumed}
 use Rattle.kinds.specs.declared.ReadAnswer.the-variants.{Key}
-use Rattle.kinds.specs.Sizes.{base, WRITES}
-use Rattle.kinds.specs.Lists.{has, keep, first, fold, least}
+use Rattle.words.specs.Sizes.{base, WRITES}
+use Rattle.words.specs.Lists.{has, keep, first, fold, least}
 use Rattle.kinds.specs.Versions.{version, versionOf, wordsOf, cellAt, versionAt, putCell}
-use Rattle.kinds.specs.Slots.{words, threes, slotOf}
+use Rattle.words.specs.Slots.{words, threes, slotOf}
 use Rattle.rules.specs.Memory.{Mem, mem, headAt}
 use Rattle.kinds.specs.Visible.{conflict}
 use Rattle.rules.specs.Chain.{chain}

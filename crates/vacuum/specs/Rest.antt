@@ -11,9 +11,9 @@ use Rattle.kinds.specs.declared.Answer.{Answer}
 use Rattle.kinds.specs.declared.Answer.the-variants.{Vacuumed}
 use Rattle.kinds.specs.declared.ReadAnswer.the-variants.{None}
 use Rattle.kinds.specs.declared.Version.{Version}
-use Rattle.kinds.specs.Sizes.{Sizes}
+use Rattle.words.specs.Sizes.{Sizes}
 use Rattle.rules.specs.Numbers.{badRow, resultFull, damaged}
-use Rattle.kinds.specs.Lists.{keep, fold}
+use Rattle.words.specs.Lists.{keep, fold}
 use Rattle.kinds.specs.Versions.{valueOf, versionAt}
 use Rattle.rules.specs.Memory.{Mem, sizeR, sizeN, headAt, withCells}
 use Rattle.rules.specs.Chain.{After, ends, goesOn, broken, Chain, chained, chain}

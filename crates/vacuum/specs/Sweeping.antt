@@ -7,8 +7,8 @@ use mathlib.Core.Path.{_≡_, ap, _∙_}
 use lib.ListN.{length}
 use lib.Seq.{sets, length-sets}
 use Rattle.kinds.specs.declared.Version.{Version}
-use Rattle.kinds.specs.Sizes.{Sizes}
-use Rattle.kinds.specs.Lists.{keep, fold}
+use Rattle.words.specs.Sizes.{Sizes}
+use Rattle.words.specs.Lists.{keep, fold}
 use Rattle.kinds.specs.Versions.{versionAt}
 use Rattle.rules.specs.Chain.{Chain, ends, chain}
 use Rattle.rules.specs.Memory.{Mem, mem}

@@ -1,7 +1,7 @@
 -- What the tests of a commit look at.
 use Prim.Native.Nat.{ℕ}
 use mathlib.Core.List.{List, [], _∷_}
-use Rattle.kinds.specs.Sizes.{base}
+use Rattle.words.specs.Sizes.{base}
 use Rattle.rules.specs.Memory.{Mem, mem}
 
 -- the arenas that a commit's tests look at; they look at no other slot, so that a whole memory is tested alike

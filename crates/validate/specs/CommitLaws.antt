@@ -9,12 +9,12 @@ use lib.ListN.{length, getD}
 use borrow.Author.Tests.{leb-false, ltb-false}
 use Rattle.kinds.specs.declared.Verdict.{Verdict}
 use Rattle.kinds.specs.declared.Verdict.the-variants.{Fine, Refused}
-use Rattle.kinds.specs.Sizes.{Sizes, base, WRITES}
-use Rattle.kinds.specs.Slots.{Slot, Write, write, threes, slotOf}
+use Rattle.words.specs.Sizes.{Sizes, base, WRITES}
+use Rattle.words.specs.Slots.{Slot, Write, write, threes, slotOf}
 use Rattle.rules.specs.Memory.{Mem, mem, sizeR, sizeN}
 use Rattle.rules.specs.Outcome.{Test, each}
 use Rattle.rules.specs.Verdicts.{verdict, andThen, verdict-append}
-use Rattle.kinds.specs.WordLaws.{threes-step, threes-done}
+use Rattle.words.specs.WordLaws.{threes-step, threes-done}
 use Rattle.rules.specs.Commit.{recordTests, baseTests, newTests, commitTests}
 use Rattle.rules.specs.Theory.Bridge.{AllIn}
 use Rattle.rules.specs.Theory.Cases.{byBool}

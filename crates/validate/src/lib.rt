@@ -1,29 +1,29 @@
 // The judge of a commit: every test that paper 01 has for it, in its order, and no change. Nothing is asked of the lent lengths: what is
 // not there reads as 0, as the rules read it.
 use arena::version_at;
-use kinds::CELL_WORDS;
-use kinds::CELLS;
 use kinds::Cell;
-use kinds::DAMAGED;
-use kinds::ID;
-use kinds::MOST_READS;
-use kinds::MOST_WRITES;
-use kinds::READ_CONFLICT;
-use kinds::READS;
-use kinds::ROWS;
-use kinds::TOP;
-use kinds::TxId;
 use kinds::Verdict;
 use kinds::Version;
-use kinds::WIDTH;
-use kinds::WRITE_CONFLICT;
-use kinds::WRITES;
-use kinds::is_active;
+use words::CELL_WORDS;
+use words::CELLS;
+use words::DAMAGED;
+use words::ID;
+use words::MOST_READS;
+use words::MOST_WRITES;
+use words::READ_CONFLICT;
+use words::READS;
+use words::ROWS;
+use words::TOP;
+use words::TxId;
+use words::WIDTH;
+use words::WRITE_CONFLICT;
+use words::WRITES;
+use words::is_active;
 ghost use mathlib.Core.Path.{_≡_};
 ghost use mathlib.Core.List.{[]};
 ghost use lib.ListN.{getD};
-ghost use Rattle.kinds.specs.Sizes.{base};
-ghost use Rattle.kinds.specs.Slots.{slotOf, write, rec};
+ghost use Rattle.words.specs.Sizes.{base};
+ghost use Rattle.words.specs.Slots.{slotOf, write, rec};
 ghost use Rattle.kinds.specs.Visible.{conflict};
 ghost use Rattle.rules.specs.Outcome.{each};
 ghost use Rattle.rules.specs.Verdicts.{verdict};
@@ -92,7 +92,7 @@ pub fn check_records(meta: &[u64], cells: &[[u64; CELL_WORDS]], slot: &[u64; WID
         (slotOf base (now (slot .entry)) .recs)) ⌝ }
 {
     let n = arena::word_at(meta, CELLS);
-    let mut left = kinds::at_most(slot[READS], MOST_READS as u64);
+    let mut left = words::at_most(slot[READS], MOST_READS as u64);
     let mut a = READS + 1;
     while left > 0 {
         let found = check_record(
@@ -168,7 +168,7 @@ pub fn check_bases(
 {
     let r = arena::word_at(meta, ROWS);
     let n = arena::word_at(meta, CELLS);
-    let mut left = kinds::at_most(slot[WRITES], MOST_WRITES as u64);
+    let mut left = words::at_most(slot[WRITES], MOST_WRITES as u64);
     let mut a = WRITES + 1;
     while left > 0 {
         let found = check_base(rows, cells, r, n, slot[a], Cell(slot[a + 1]));
@@ -205,7 +205,7 @@ pub fn check_news(meta: &[u64], slot: &[u64; WIDTH]) -> Verdict
     ensures { λ r. ⌜ r ≡ verdict (each (newTests (lent (now (meta .entry)) [] [])) (slotOf base (now (slot .entry)) .writes)) ⌝ }
 {
     let n = arena::word_at(meta, CELLS);
-    let mut left = kinds::at_most(slot[WRITES], MOST_WRITES as u64);
+    let mut left = words::at_most(slot[WRITES], MOST_WRITES as u64);
     let mut a = WRITES + 1;
     while left > 0 {
         let found = check_new(n, Cell(slot[a + 2]));

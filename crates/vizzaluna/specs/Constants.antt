@@ -2,7 +2,7 @@
 use Prim.Native.Nat.{ℕ}
 use mathlib.Core.List.{List, [], _∷_}
 use lib.ListN.{length}
-use Rattle.kinds.specs.Sizes.{base, lastId, ROWS, CELLS, CLOCK, FREE, metaWords, ID, LOW, TOP, ACTIVE, WRITES, READS}
+use Rattle.words.specs.Sizes.{base, lastId, ROWS, CELLS, CLOCK, FREE, metaWords, ID, LOW, TOP, ACTIVE, WRITES, READS}
 use Rattle.rules.specs.Numbers.{badSize, clockSpent, noFreeSlot, badSlot, notOwner, badRow, rowLocked, writeConflict, readConflict, chainTooLong, noRoom, writeSetFull, readSetFull, resultFull, damaged}
 use Rattle.kinds.specs.Versions.{emptyVersion, wordsOf}
 use Rattle.rules.specs.Vacuum.{reportOf}

@@ -6,11 +6,11 @@ use mathlib.Core.List.{List, [], _∷_, _++_}
 use mathlib.Core.Path.{_≡_, refl, sym, ap, _∙_}
 use mathlib.Core.Logic.{_≢_, inl, inr}
 use lib.Dec.{leb}
-use Rattle.kinds.specs.Sizes.{Sizes}
+use Rattle.words.specs.Sizes.{Sizes}
 use Rattle.rules.specs.Theory.Cases.{byBool}
 use Rattle.rules.specs.Memory.{Mem, sizeR, slotAt}
-use Rattle.kinds.specs.Slots.{Slot, Rec}
-use Rattle.kinds.specs.Lists.{from}
+use Rattle.words.specs.Slots.{Slot, Rec}
+use Rattle.words.specs.Lists.{from}
 use Rattle.rules.specs.Lookup.{ownRows, rowsToRead}
 use Rattle.rules.specs.Run.{Call, create, begin, read, write, commit, abort, vacuum, lookup, lookupAll, step}
 use Rattle.rules.specs.Exactly.{Line, Refuses, Lacks, eachOf, under, lacks-append, lacks-each, lacks-under, lacks-refuses}

@@ -6,7 +6,7 @@ use mathlib.Core.Path.{_≡_}
 use lib.Seq.{sets}
 use Rattle.kinds.specs.declared.ReadAnswer.{ReadAnswer}
 use Rattle.kinds.specs.declared.Answer.{Answer}
-use Rattle.kinds.specs.Sizes.{base}
+use Rattle.words.specs.Sizes.{base}
 use Rattle.rules.specs.Numbers.{readNumber, numberOf}
 use Rattle.rules.specs.Memory.{Mem}
 use Rattle.rules.specs.Outcome.{Outcome}

@@ -3,7 +3,7 @@ use Prim.Native.Nat.{ℕ}
 use mathlib.Core.List.{List, [], _∷_}
 use lib.ListN.{getD}
 use lib.Dec.{eqb, ltb, leb}
-use Rattle.kinds.specs.Sizes.{Sizes, CELLS, FREE, WRITES}
+use Rattle.words.specs.Sizes.{Sizes, CELLS, FREE, WRITES}
 use Rattle.rules.specs.Numbers.{noRoom, writeSetFull, damaged}
 use Rattle.rules.specs.Outcome.{Test, test}
 

@@ -1,7 +1,7 @@
 use Rattle.access.specs.ReadRest.{read-bad-row, read-blocked, read-known, read-fresh}
 use Rattle.reads.specs.Sights.{told, fresh-room}
 use Rattle.kinds.specs.Versions.{versionAt}
-use Rattle.kinds.specs.Sizes.{CELLS}
+use Rattle.words.specs.Sizes.{CELLS}
 use lib.ListN.{getD, set}
 use mathlib.Core.List.{[]}
 use mathlib.Core.Path.{sym, ap, _∙_}

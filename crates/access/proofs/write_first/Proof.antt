@@ -1,7 +1,7 @@
-use Rattle.kinds.specs.Slots.{slotOf}
+use Rattle.words.specs.Slots.{slotOf}
 use Rattle.rules.specs.Write.{headTests}
 use Rattle.rules.specs.Memory.{mem}
-use Rattle.kinds.specs.Sizes.{base}
+use Rattle.words.specs.Sizes.{base}
 use lib.ListN.{set}
 use mathlib.Core.Option.{none}
 use Rattle.access.specs.WriteRest.{first-head, first-room, first-done, head-in, room-facts}

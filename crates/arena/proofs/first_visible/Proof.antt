@@ -4,9 +4,9 @@ use Rattle.arena.specs.LookLaws.{look-end, look-limit, look-harmed, look
 use Rattle.arena.specs.Sights.{sighted}
 use Rattle.rules.specs.Chain.{look}
 use Rattle.kinds.specs.Visible.{visible}
-use Rattle.kinds.specs.Slots.{slotOf}
+use Rattle.words.specs.Slots.{slotOf}
 use Rattle.kinds.specs.Versions.{versionAt}
-use Rattle.kinds.specs.Sizes.{base}
+use Rattle.words.specs.Sizes.{base}
 use mathlib.Core.Path.{_≡_, refl, sym, ap, _∙_}
 use native.Mathlib.Omega.{arith}
 use borrow.Author.Needs.{needs}

@@ -2,12 +2,12 @@ use mathlib.Core.Path.{sym, ap, _∙_}
 use mathlib.Core.List.{List, []}
 use Prim.Native.Nat.{ℕ}
 use lib.ListN.{getD}
-use Rattle.kinds.specs.Sizes.{base}
-use Rattle.kinds.specs.Slots.{slotOf}
+use Rattle.words.specs.Sizes.{base}
+use Rattle.words.specs.Slots.{slotOf}
 use Rattle.undo.specs.UndoLaws as U
 use Rattle.undo.specs.UndoLaws.{give-whole, fine-bases, fine-news}
 use Rattle.ends.specs.AbortRest.{abort-refused, abort-done}
-use Rattle.kinds.specs.Lists.{fold}
+use Rattle.words.specs.Lists.{fold}
 use Rattle.rules.specs.Memory.{mem}
 use Rattle.rules.specs.Abort.{news, giveBack}
 use native.Mathlib.Omega.{arith}

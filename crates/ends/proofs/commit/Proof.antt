@@ -1,8 +1,8 @@
 use mathlib.Core.Path.{sym, ap, _∙_}
 use mathlib.Core.List.{[]}
 use lib.ListN.{getD}
-use Rattle.kinds.specs.Sizes.{base}
-use Rattle.kinds.specs.Slots.{slotOf}
+use Rattle.words.specs.Sizes.{base}
+use Rattle.words.specs.Slots.{slotOf}
 use Rattle.rules.specs.Verdicts.{verdict}
 use Rattle.validate.specs.Arenas as L
 use Rattle.validate.specs.CommitLaws.{commit-whole, fine-writes}

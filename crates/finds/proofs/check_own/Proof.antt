@@ -3,8 +3,8 @@ use mathlib.Core.Path.{_≡_, refl, sym, ap, _∙_}
 use borrow.Author.Needs.{needs}
 use Rattle.finds.specs.Marks.{ownRowTest, own-rows-next, own-rows-end, tests-next, tests-stop, tests-end}
 use borrow.Author.Tests.{le-leb, lt-leb}
-use Rattle.kinds.specs.Sizes.{base, WRITES}
-use Rattle.kinds.specs.Slots.{write, threes, slotOf}
+use Rattle.words.specs.Sizes.{base, WRITES}
+use Rattle.words.specs.Slots.{write, threes, slotOf}
 use Rattle.rules.specs.Lookup.{ownRows}
 use Rattle.rules.specs.Verdicts.{verdict}
 use Rattle.rules.specs.Outcome.{each}

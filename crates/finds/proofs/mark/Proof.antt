@@ -1,5 +1,5 @@
 use borrow.Author.Tests.{le-leb, lt-leb}
-use Rattle.kinds.specs.Sizes.{base}
+use Rattle.words.specs.Sizes.{base}
 use Rattle.finds.specs.Marks.{marked}
 use borrow.Author.Needs.{needs}
 use Rattle.finds.proofs.mark.Statement.{statement}

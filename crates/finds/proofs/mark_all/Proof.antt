@@ -2,7 +2,7 @@ use native.Mathlib.Omega.{arith}
 use mathlib.Core.Path.{_≡_, refl, sym, ap, _∙_}
 use borrow.Author.Needs.{needs}
 use Rattle.finds.specs.Marks.{marked, drop-next, drop-end, marks-next, marks-end}
-use Rattle.kinds.specs.Lists.{fold}
+use Rattle.words.specs.Lists.{fold}
 use lib.ListN.{length, drop}
 use Prim.Native.Nat.{_≤_, _-_}
 use Rattle.finds.proofs.mark_all.Statement.{statement}

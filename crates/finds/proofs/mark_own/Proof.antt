@@ -2,10 +2,10 @@ use native.Mathlib.Omega.{arith}
 use mathlib.Core.Path.{_≡_, sym, ap, _∙_}
 use borrow.Author.Needs.{needs}
 use Rattle.finds.specs.Marks.{marked, own-rows-next, own-rows-end, marks-next, marks-end}
-use Rattle.kinds.specs.Sizes.{base, WRITES}
-use Rattle.kinds.specs.Slots.{write, threes, slotOf}
+use Rattle.words.specs.Sizes.{base, WRITES}
+use Rattle.words.specs.Slots.{write, threes, slotOf}
 use Rattle.rules.specs.Lookup.{ownRows}
-use Rattle.kinds.specs.Lists.{fold}
+use Rattle.words.specs.Lists.{fold}
 use Prim.Native.Nat.{ℕ, _+_, _*_, _≤_}
 use Rattle.finds.proofs.mark_own.Statement.{statement}
 use Rattle.finds.proofs.mark_own.Tie as tie

@@ -1,6 +1,6 @@
 -- The loop's invariant: what is left to store, stored at i, gives what the whole gives.
 use Rattle.fresh.specs.StoreLaws.{clearedFrom, cleared-all, cleared-turn, cleared-end}
-use Rattle.kinds.specs.Sizes.{base}
+use Rattle.words.specs.Sizes.{base}
 use lib.ListN.{length, length-set}
 use borrow.Author.Needs.{needs}
 use native.Mathlib.Omega.{arith}

@@ -1,6 +1,6 @@
 -- The loop's invariant: the words left, stored at i, give what the four give.
 use Rattle.fresh.specs.StoreLaws.{list-turn, list-end}
-use Rattle.kinds.specs.Sizes.{metaWords}
+use Rattle.words.specs.Sizes.{metaWords}
 use mathlib.Core.List.{[], _∷_}
 use lib.Seq.{sets}
 use lib.ListN.{length, length-set, drop}

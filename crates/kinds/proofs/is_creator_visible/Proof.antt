@@ -1,5 +1,5 @@
 use Rattle.kinds.specs.Visible.{creatorVisible}
-use Rattle.kinds.specs.Slots.{slotOf}
+use Rattle.words.specs.Slots.{slotOf}
 use borrow.Author.Tests.{eq-eqb, ne-eqb, lt-ltb, le-ltb}
 use borrow.Author.Needs.{needs}
 use Rattle.kinds.proofs.is_creator_visible.Statement.{statement}

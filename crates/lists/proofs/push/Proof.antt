@@ -1,4 +1,4 @@
-use Rattle.kinds.specs.Slots.{push}
+use Rattle.words.specs.Slots.{push}
 use mathlib.Core.Path.{refl}
 use native.Mathlib.Omega.{arith}
 use borrow.Author.Needs.{needs}

@@ -1,6 +1,6 @@
 use mathlib.Core.Path.{ap, _∙_}
 use Rattle.finds.specs.Marks.{marked}
-use Rattle.kinds.specs.Lists.{fold}
+use Rattle.words.specs.Lists.{fold}
 use Rattle.rules.specs.Memory.{mem}
 use Rattle.lookup.specs.CallLaws.{search-rows}
 use Rattle.lookup.specs.LookupRest.{filled-is}

@@ -1,7 +1,7 @@
 use lib.Dec.{eqb}
 use Rattle.opens.specs.PlaceLaws.{gather-turn, gather-end, place-le}
 use Rattle.slots.specs.OccupiedLaws.{rest}
-use Rattle.kinds.specs.Sizes.{base, ID}
+use Rattle.words.specs.Sizes.{base, ID}
 use lib.ListN.{length, getD, take, set, length-set}
 use mathlib.Core.List.{_++_, []}
 use Prim.Native.Nat.{ℕ, _+_, _-_, _≤_, min}

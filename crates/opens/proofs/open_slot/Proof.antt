@@ -1,4 +1,4 @@
-use Rattle.kinds.specs.Slots.{opened}
+use Rattle.words.specs.Slots.{opened}
 use lib.Seq.{length-take-le}
 use borrow.Author.Needs.{needs}
 use Rattle.opens.proofs.open_slot.Statement.{statement}

@@ -1,5 +1,5 @@
 use Rattle.opens.specs.PlaceLaws.{store-turn, store-end}
-use Rattle.kinds.specs.Sizes.{ACTIVE}
+use Rattle.words.specs.Sizes.{ACTIVE}
 use lib.Seq.{sets, getD-take}
 use lib.ListN.{take, drop, set, length-take}
 use Prim.Native.Nat.{ℕ, _+_, _-_, _≤_}

@@ -2,8 +2,8 @@
 use Rattle.publish.specs.PublishLaws.{lent, left-none, left-step, left-in, still-in}
 use Rattle.rules.specs.Theory.Bridge.{AllIn}
 use Rattle.rules.specs.Commit.{publishAll}
-use Rattle.kinds.specs.Slots.{slotOf, threes, write}
-use Rattle.kinds.specs.Sizes.{base}
+use Rattle.words.specs.Slots.{slotOf, threes, write}
+use Rattle.words.specs.Sizes.{base}
 use lib.ListN.{length}
 use Prim.Native.Nat.{_+_, _*_, _-_, _≤_}
 use native.Mathlib.Omega.{arith}

@@ -1,7 +1,7 @@
 use Rattle.reads.specs.OwnLaws.{recorded-done, recorded-here, recorded-next}
 use Rattle.rules.specs.Read.{recorded}
-use Rattle.kinds.specs.Slots.{rec, threes, slotOf}
-use Rattle.kinds.specs.Sizes.{base, READS}
+use Rattle.words.specs.Slots.{rec, threes, slotOf}
+use Rattle.words.specs.Sizes.{base, READS}
 use Prim.Native.Nat.{ℕ, _+_, _*_, _≤_}
 use mathlib.Core.Path.{_≡_, sym, ap, _∙_}
 use native.Mathlib.Omega.{arith}

@@ -1,8 +1,8 @@
 use Rattle.reads.specs.OwnLaws.{own-here, own-back, own-none}
 use Rattle.reads.specs.Found.{ownOf}
 use Rattle.rules.specs.Read.{own}
-use Rattle.kinds.specs.Slots.{write, threes, slotOf}
-use Rattle.kinds.specs.Sizes.{base, WRITES}
+use Rattle.words.specs.Slots.{write, threes, slotOf}
+use Rattle.words.specs.Sizes.{base, WRITES}
 use Prim.Native.Nat.{ℕ, _+_, _≤_}
 use mathlib.Core.Path.{_≡_, sym, ap, _∙_}
 use native.Mathlib.Omega.{arith}

@@ -1,7 +1,7 @@
 use Rattle.reads.specs.Sights.{sightFound, read-row-is}
 use Rattle.kinds.specs.Versions.{versionAt}
-use Rattle.kinds.specs.Slots.{slotOf}
-use Rattle.kinds.specs.Sizes.{base}
+use Rattle.words.specs.Slots.{slotOf}
+use Rattle.words.specs.Sizes.{base}
 use mathlib.Core.Path.{sym, ap, _∙_}
 use borrow.Author.Needs.{needs}
 use Rattle.reads.proofs.read_row.Statement.{statement}

@@ -1,7 +1,7 @@
 use lib.ListN.{length}
 use Rattle.reads.specs.Sights.{recordOf, records-count}
-use Rattle.kinds.specs.Slots.{slotOf}
-use Rattle.kinds.specs.Sizes.{base}
+use Rattle.words.specs.Slots.{slotOf}
+use Rattle.words.specs.Sizes.{base}
 use borrow.Author.Tests.{le-leb, lt-leb}
 use native.Mathlib.Omega.{arith}
 use mathlib.Core.Path.{sym, _∙_}

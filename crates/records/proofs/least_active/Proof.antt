@@ -14,7 +14,7 @@ use contract.Running.{givenOf, tables, tablesOf}
 use denote.Ref.{RefT, now}
 use denote.Triple.Spec.{tripleOf}
 use denote.Triple.Table.{entered, cited}
-use Rattle.kinds.specs.Lists.{least}
+use Rattle.words.specs.Lists.{least}
 use Rattle.records.specs.Horizon.{occupied, leastActive}
 use Rattle.records.specs.FoldLaws.{lowers}
 use Rattle.records.specs.declared.Slot.{Slot}

@@ -35,7 +35,7 @@ use denote.Triple.Table.{entered, cited}
 use denote.Triple.Walked.{says, Stays, stay-none, stay-none-slice, walkOf, goes-none, goes-none-slice, Walks, ends-at, walked, walk-meets}
 use denote.Exit.{yes}
 use denote.Triple.Clauses.{ensured, lasts}
-use Rattle.kinds.specs.Lists.{least}
+use Rattle.words.specs.Lists.{least}
 use Rattle.records.specs.Horizon.{xmins, horizonOf}
 use Rattle.records.specs.declared.Slot.{Slot}
 use Rattle.records.proofs.Slot as T

@@ -7,10 +7,10 @@ use native.Mathlib.Omega.{arith}
 use lib.Seq.{getD-set-same, getD-set-other}
 use borrow.Author.Tests.{ltb-false}
 use Rattle.kinds.specs.declared.Answer.{Answer}
-use Rattle.kinds.specs.Sizes.{Sizes}
-use Rattle.kinds.specs.Lists.{fold}
+use Rattle.words.specs.Sizes.{Sizes}
+use Rattle.words.specs.Lists.{fold}
 use Rattle.kinds.specs.Versions.{at, versionAt}
-use Rattle.kinds.specs.Slots.{Write, Slot, emptied}
+use Rattle.words.specs.Slots.{Write, Slot, emptied}
 use Rattle.rules.specs.Memory.{Mem, sizeN, slotAt, withCells, withSlot, headAt, free, clock}
 use Rattle.rules.specs.Outcome.{each, Outcome, refuse, slotTests}
 use Rattle.rules.specs.Abort.{abortTests, news, unlockBase, giveBack, abortOut}

@@ -9,10 +9,10 @@ use lib.ListN.{length, getD, take, length-take, length-set}
 use lib.Seq.{getD-set-other}
 use borrow.Author.Tests.{eqb-true, leb-false}
 use Rattle.kinds.specs.declared.Answer.{Answer}
-use Rattle.kinds.specs.Sizes.{ID, Sizes, CLOCK, ROWS, CELLS, lastId}
+use Rattle.words.specs.Sizes.{ID, Sizes, CLOCK, ROWS, CELLS, lastId}
 use Rattle.rules.specs.Numbers.{noFreeSlot, clockSpent}
 use Rattle.kinds.specs.Versions.{at}
-use Rattle.kinds.specs.Slots.{slotOf}
+use Rattle.words.specs.Slots.{slotOf}
 use Rattle.rules.specs.Memory.{Mem, wordsAt, slotAt, clock}
 use Rattle.rules.specs.Snapshot.{vacant}
 use Rattle.rules.specs.Outcome.{test, Outcome, refuse, storeTests}

@@ -11,10 +11,10 @@ use lib.ListN.{set, getD, length, length-set, take}
 use lib.Seq.{getD-set-same, getD-set-other}
 use borrow.Author.Tests.{eq-eqb, ne-eqb}
 use Rattle.kinds.specs.declared.Version.{Version}
-use Rattle.kinds.specs.Sizes.{Sizes, READS, WRITES, FREE, CLOCK, ID, LOW}
-use Rattle.kinds.specs.Lists.{fold, nonzero}
+use Rattle.words.specs.Sizes.{Sizes, READS, WRITES, FREE, CLOCK, ID, LOW}
+use Rattle.words.specs.Lists.{fold, nonzero}
 use Rattle.kinds.specs.Versions.{version, versionAt, linkAt, putVersion, keyedOf, keyOf, withValue, withNext, emptyVersion, withLock}
-use Rattle.kinds.specs.Slots.{Slot, slotOf, emptied, Rec, addRecs, write, addWrite, Write}
+use Rattle.words.specs.Slots.{Slot, slotOf, emptied, Rec, addRecs, write, addWrite, Write}
 use Rattle.rules.specs.Memory.{Mem, withSlot, headAt, free, clock, wordsAt}
 use Rattle.rules.specs.Snapshot.{occupied, snapLow, snapTop}
 use Rattle.rules.specs.Begin.{beginWords, idsWith, begun}

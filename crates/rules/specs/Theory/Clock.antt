@@ -6,10 +6,10 @@ use Prim.Native.Nat.{ℕ}
 use native.Mathlib.Omega.{arith}
 use lib.ListN.{getD}
 use lib.Seq.{getD-set-other}
-use Rattle.kinds.specs.Sizes.{Sizes, FREE, CLOCK}
-use Rattle.kinds.specs.Lists.{fold, keep}
+use Rattle.words.specs.Sizes.{Sizes, FREE, CLOCK}
+use Rattle.words.specs.Lists.{fold, keep}
 use Rattle.kinds.specs.Versions.{versionAt}
-use Rattle.kinds.specs.Slots.{Write}
+use Rattle.words.specs.Slots.{Write}
 use Rattle.rules.specs.Memory.{Mem, clock, slotAt}
 use Rattle.rules.specs.Chain.{After, goesOn, broken, ends}
 use Rattle.rules.specs.Outcome.{Outcome, refuseRead, refuse, Test}

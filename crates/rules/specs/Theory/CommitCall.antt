@@ -5,9 +5,9 @@ use Prim.Native.Nat.{_<_, _≤_, ℕ, suc}
 use native.Mathlib.Omega.{arith}
 use borrow.Author.Tests.{leb-false, ltb-false, eqb-true, not-false}
 use Rattle.kinds.specs.declared.Answer.{Answer}
-use Rattle.kinds.specs.Sizes.{Sizes}
-use Rattle.kinds.specs.Lists.{fold}
-use Rattle.kinds.specs.Slots.{Write, Slot, emptied}
+use Rattle.words.specs.Sizes.{Sizes}
+use Rattle.words.specs.Lists.{fold}
+use Rattle.words.specs.Slots.{Write, Slot, emptied}
 use Rattle.rules.specs.Memory.{Mem, headAt, sizeR, sizeN, slotAt, withSlot}
 use Rattle.rules.specs.Outcome.{each, slotTests, Outcome, refuse}
 use Rattle.rules.specs.Commit.{baseTests, newTests, commitTests, recordTests, publishAll, commitOut}

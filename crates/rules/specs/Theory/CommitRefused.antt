@@ -6,11 +6,11 @@ use Prim.Native.Nat.{ℕ, _<_}
 use native.Mathlib.Omega.{arith}
 use borrow.Author.Tests.{eqb-false, not-true}
 use Rattle.kinds.specs.declared.Answer.{Answer}
-use Rattle.kinds.specs.Sizes.{Sizes}
+use Rattle.words.specs.Sizes.{Sizes}
 use Rattle.rules.specs.Numbers.{writeConflict}
-use Rattle.kinds.specs.Lists.{nonzero}
+use Rattle.words.specs.Lists.{nonzero}
 use Rattle.kinds.specs.Versions.{versionAt}
-use Rattle.kinds.specs.Slots.{Slot, Rec, Write}
+use Rattle.words.specs.Slots.{Slot, Rec, Write}
 use Rattle.rules.specs.Memory.{Mem, headAt, slotAt}
 use Rattle.rules.specs.Outcome.{slotTests, storeTests, each, refuse, Outcome}
 use Rattle.rules.specs.Commit.{recordTests, newTests, baseTests, commitTests, commitOut}

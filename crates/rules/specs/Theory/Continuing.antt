@@ -10,7 +10,7 @@ use lib.Dec.{eqb}
 use lib.Seq.{getD-set-same}
 use Rattle.kinds.specs.declared.Answer.{Answer}
 use Rattle.kinds.specs.declared.Answer.the-variants.{Wrote, Done, Begun, Vacuumed, Listed}
-use Rattle.kinds.specs.Sizes.{Sizes, CLOCK}
+use Rattle.words.specs.Sizes.{Sizes, CLOCK}
 use Rattle.rules.specs.Memory.{Mem, clock}
 use Rattle.rules.specs.Outcome.{Outcome, refuse}
 use Rattle.rules.specs.Create.{createOut}

@@ -6,9 +6,9 @@ use Prim.Native.Nat.{ℕ, _+_}
 use lib.Dec.{eqb}
 use lib.ListN.{set, getD}
 use Rattle.kinds.specs.declared.Version.{Version}
-use Rattle.kinds.specs.Lists.{nonzero, fold}
+use Rattle.words.specs.Lists.{nonzero, fold}
 use Rattle.kinds.specs.Versions.{withLock, withXmax, withNext, version, keyedOf, keyOf, emptyVersion}
-use Rattle.kinds.specs.Slots.{Write, Slot, write}
+use Rattle.words.specs.Slots.{Write, Slot, write}
 use Rattle.rules.specs.Snapshot.{snapLow, snapTop}
 use Rattle.rules.specs.Theory.SlotLaws.{withWrite, newSlot}
 use Rattle.rules.specs.Theory.View.{upd, View, emptySlot}

@@ -1,8 +1,8 @@
 -- Calls after calls: what a run of the first and then the others leaves, replies and logs.
 use mathlib.Core.List.{List, _++_, [], _∷_}
 use mathlib.Core.Path.{ap, _≡_, refl, _∙_}
-use Rattle.kinds.specs.Sizes.{Sizes}
-use Rattle.kinds.specs.Lists.{first}
+use Rattle.words.specs.Sizes.{Sizes}
+use Rattle.words.specs.Lists.{first}
 use Rattle.rules.specs.Memory.{Mem}
 use Rattle.rules.specs.Create.{createOut}
 use Rattle.rules.specs.Run.{run, Call, step, Reply}

@@ -9,10 +9,10 @@ use native.Mathlib.Omega.{arith}
 use lib.Dec.{leb, eqb}
 use lib.ListN.{getD}
 use borrow.Author.Tests.{leb-true, eq-eqb, leb-false, ne-eqb}
-use Rattle.kinds.specs.Sizes.{Sizes}
-use Rattle.kinds.specs.Lists.{least, has, greatest, first}
+use Rattle.words.specs.Sizes.{Sizes}
+use Rattle.words.specs.Lists.{least, has, greatest, first}
 use Rattle.kinds.specs.Versions.{at, versionAt}
-use Rattle.kinds.specs.Slots.{Slot, Write, Rec}
+use Rattle.words.specs.Slots.{Slot, Write, Rec}
 use Rattle.rules.specs.Memory.{Mem, headAt, slotAt, clock}
 use Rattle.kinds.specs.Visible.{visible}
 use Rattle.rules.specs.Chain.{Chain}

@@ -9,9 +9,9 @@ use native.Mathlib.Omega.{arith}
 use lib.Dec.{eqb, leb}
 use lib.ListN.{getD, length}
 use borrow.Author.Tests.{leb-false, eqb-false, eqb-true, not-false, not-true, leb-true}
-use Rattle.kinds.specs.Sizes.{Sizes, ID}
-use Rattle.kinds.specs.Lists.{orElse, nonzero}
-use Rattle.kinds.specs.Slots.{slotOf, Slot}
+use Rattle.words.specs.Sizes.{Sizes, ID}
+use Rattle.words.specs.Lists.{orElse, nonzero}
+use Rattle.words.specs.Slots.{slotOf, Slot}
 use Rattle.rules.specs.Memory.{Mem, sizeR, sizeN, wordsAt, slotAt}
 use Rattle.rules.specs.Outcome.{slotTests, storeTests, isCell}
 use Rattle.rules.specs.History.{said}

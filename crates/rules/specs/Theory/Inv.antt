@@ -11,8 +11,8 @@ use Prim.Native.Nat.{ℕ, _+_, _<_, _≤_}
 use lib.Dec.{eqb, ltb}
 use lib.ListN.{getD, length}
 use Rattle.kinds.specs.declared.Version.{Version}
-use Rattle.kinds.specs.Lists.{nonzero, has, least, greatest}
-use Rattle.kinds.specs.Slots.{Slot, Write, Rec}
+use Rattle.words.specs.Lists.{nonzero, has, least, greatest}
+use Rattle.words.specs.Slots.{Slot, Write, Rec}
 use Rattle.kinds.specs.Visible.{creatorVisible, visible}
 use Rattle.rules.specs.Abort.{news}
 use Rattle.rules.specs.History.{Val, said}

@@ -4,10 +4,10 @@ use mathlib.Core.Logic.{_≢_, inl, inr}
 use mathlib.Core.Option.{Option}
 use mathlib.Core.Path.{subst, ap, refl, _≡_, _∙_, sym}
 use Prim.Native.Nat.{ℕ, _<_}
-use Rattle.kinds.specs.Sizes.{Sizes}
+use Rattle.words.specs.Sizes.{Sizes}
 use Rattle.rules.specs.Numbers.{readNumber}
-use Rattle.kinds.specs.Lists.{orElse}
-use Rattle.kinds.specs.Slots.{Rec}
+use Rattle.words.specs.Lists.{orElse}
+use Rattle.words.specs.Slots.{Rec}
 use Rattle.rules.specs.Memory.{Mem, clock, slotAt}
 use Rattle.rules.specs.Read.{readOut}
 use Rattle.rules.specs.Run.{Call, run}

@@ -12,9 +12,9 @@ use lib.ListN.{length, set, getD}
 use lib.Seq.{getD-set-same, getD-set-other}
 use borrow.Author.Tests.{eq-eqb, ne-eqb, eqb-true}
 use Rattle.kinds.specs.declared.Version.{Version}
-use Rattle.kinds.specs.Lists.{fold, nonzero}
+use Rattle.words.specs.Lists.{fold, nonzero}
 use Rattle.kinds.specs.Versions.{at, emptyVersion, withNext, withLock, withXmax, newVersion}
-use Rattle.kinds.specs.Slots.{Slot, Write, write, Rec}
+use Rattle.words.specs.Slots.{Slot, Write, write, Rec}
 use Rattle.kinds.specs.Visible.{visible, creatorVisible}
 use Rattle.rules.specs.Read.{sees}
 use Rattle.rules.specs.Reachable.{basesOf, All}

@@ -7,10 +7,10 @@ use native.Mathlib.Omega.{arith}
 use lib.Dec.{leb}
 use lib.ListN.{length}
 use Rattle.kinds.specs.declared.Answer.{Answer}
-use Rattle.kinds.specs.Sizes.{Sizes}
-use Rattle.kinds.specs.Lists.{from, fold, keep, has}
+use Rattle.words.specs.Sizes.{Sizes}
+use Rattle.words.specs.Lists.{from, fold, keep, has}
 use Rattle.kinds.specs.Versions.{at, versionAt}
-use Rattle.kinds.specs.Slots.{Slot, Rec, Write}
+use Rattle.words.specs.Slots.{Slot, Rec, Write}
 use Rattle.rules.specs.Memory.{Mem, headAt, slotAt, sizeR}
 use Rattle.rules.specs.Outcome.{Test, Outcome, refuse, slotTests, each}
 use Rattle.rules.specs.Read.{Sight, blocked, sees, answerAt, readRow}

@@ -13,11 +13,11 @@ use borrow.Author.Tests.{ne-eqb, le-ltb, lt-ltb, le-leb, lt-leb, eq-eqb}
 use Rattle.kinds.specs.declared.Answer.{Answer}
 use Rattle.kinds.specs.declared.Answer.the-variants.{Listed}
 use Rattle.kinds.specs.declared.ReadAnswer.the-variants.{None}
-use Rattle.kinds.specs.Sizes.{Sizes}
+use Rattle.words.specs.Sizes.{Sizes}
 use Rattle.rules.specs.Numbers.{resultFull, chainTooLong, readSetFull, numberOf}
-use Rattle.kinds.specs.Lists.{keep, fold, from, first, has}
+use Rattle.words.specs.Lists.{keep, fold, from, first, has}
 use Rattle.kinds.specs.Versions.{at, versionAt}
-use Rattle.kinds.specs.Slots.{Rec, Slot, addRecs, Write}
+use Rattle.words.specs.Slots.{Rec, Slot, addRecs, Write}
 use Rattle.rules.specs.Memory.{Mem, slotAt, headAt, withSlot, wordsAt, sizeR}
 use Rattle.rules.specs.Outcome.{Test, refuse, out, each, slotTests, Outcome}
 use Rattle.rules.specs.Read.{recorded, sees, answerAt, blocked, Sight, readRow}

@@ -11,11 +11,11 @@ use lib.ListN.{getD, length}
 use borrow.Author.Tests.{ne-eqb, le-ltb, leb-false, lt-leb, eq-eqb, le-leb}
 use Rattle.kinds.specs.declared.Answer.{Answer}
 use Rattle.kinds.specs.declared.ReadAnswer.{ReadAnswer}
-use Rattle.kinds.specs.Sizes.{Sizes, ACTIVE, WRITES, READS, ID}
+use Rattle.words.specs.Sizes.{Sizes, ACTIVE, WRITES, READS, ID}
 use Rattle.rules.specs.Numbers.{damaged, numberOf, readNumber}
-use Rattle.kinds.specs.Lists.{fold, from}
+use Rattle.words.specs.Lists.{fold, from}
 use Rattle.kinds.specs.Versions.{at, versionAt}
-use Rattle.kinds.specs.Slots.{slotOf, Slot, Write, Rec}
+use Rattle.words.specs.Slots.{slotOf, Slot, Write, Rec}
 use Rattle.rules.specs.Memory.{Mem, sizeR, sizeN, clock, wordsAt, headAt, free, slotAt}
 use Rattle.rules.specs.Chain.{ends}
 use Rattle.rules.specs.Snapshot.{horizon}

@@ -9,11 +9,11 @@ use native.Mathlib.Omega.{arith}
 use lib.Dec.{leb}
 use lib.ListN.{take, length, getD}
 use Rattle.kinds.specs.declared.Answer.{Answer}
-use Rattle.kinds.specs.Sizes.{Sizes}
+use Rattle.words.specs.Sizes.{Sizes}
 use Rattle.rules.specs.Numbers.{readSetFull, numberOf}
-use Rattle.kinds.specs.Lists.{first, fold}
+use Rattle.words.specs.Lists.{first, fold}
 use Rattle.kinds.specs.Versions.{at, versionAt}
-use Rattle.kinds.specs.Slots.{Slot, Rec}
+use Rattle.words.specs.Slots.{Slot, Rec}
 use Rattle.rules.specs.Memory.{Mem, slotAt}
 use Rattle.rules.specs.Outcome.{Test, Outcome, refuse, each}
 use Rattle.rules.specs.Read.{sees, answerAt, Sight}

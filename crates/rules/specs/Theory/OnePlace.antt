@@ -7,10 +7,10 @@ use native.Mathlib.Omega.{arith}
 use lib.Dec.{eqb}
 use lib.ListN.{length, getD}
 use borrow.Author.Tests.{ne-eqb, lt-ltb, le-ltb}
-use Rattle.kinds.specs.Sizes.{Sizes}
-use Rattle.kinds.specs.Lists.{from}
+use Rattle.words.specs.Sizes.{Sizes}
+use Rattle.words.specs.Lists.{from}
 use Rattle.kinds.specs.Versions.{withNext, emptyVersion, linkAt, at}
-use Rattle.kinds.specs.Slots.{Slot}
+use Rattle.words.specs.Slots.{Slot}
 use Rattle.rules.specs.Memory.{Mem, free, sizeR, slotAt}
 use Rattle.rules.specs.Chain.{chained, ends, Chain}
 use Rattle.rules.specs.Abort.{news}

@@ -10,9 +10,9 @@ use lib.ListN.{getD, set, length, length-set}
 use lib.Seq.{getD-set-same, getD-set-other}
 use borrow.Author.Tests.{eq-eqb, ne-eqb}
 use Rattle.kinds.specs.declared.Version.{Version}
-use Rattle.kinds.specs.Lists.{nonzero}
+use Rattle.words.specs.Lists.{nonzero}
 use Rattle.kinds.specs.Versions.{withNext, withLock, withXmax, at}
-use Rattle.kinds.specs.Slots.{Slot, Write, Rec}
+use Rattle.words.specs.Slots.{Slot, Write, Rec}
 use Rattle.kinds.specs.Visible.{creatorVisible}
 use Rattle.rules.specs.History.{Val}
 use Rattle.rules.specs.Theory.Cases.{byEq, byBool}

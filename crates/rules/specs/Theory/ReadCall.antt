@@ -5,9 +5,9 @@ use Prim.Native.Nat.{ℕ, _+_, _≤_, suc, _<_}
 use lib.ListN.{length, getD, length-append}
 use borrow.Author.Tests.{leb-false}
 use Rattle.kinds.specs.declared.ReadAnswer.{ReadAnswer}
-use Rattle.kinds.specs.Sizes.{Sizes, READS}
+use Rattle.words.specs.Sizes.{Sizes, READS}
 use Rattle.kinds.specs.Versions.{at, versionAt}
-use Rattle.kinds.specs.Slots.{Rec, Slot, addRecs}
+use Rattle.words.specs.Slots.{Rec, Slot, addRecs}
 use Rattle.rules.specs.Memory.{Mem, wordsAt, withSlot, sizeR, slotAt, headAt}
 use Rattle.rules.specs.Outcome.{Outcome, refuseRead, slotTests, rowTest}
 use Rattle.rules.specs.Read.{Sight, readEnd, blocked, sees, readAt, readRow, readOut}

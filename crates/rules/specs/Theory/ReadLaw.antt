@@ -12,11 +12,11 @@ use Rattle.kinds.specs.declared.Answer.{Answer}
 use Rattle.kinds.specs.declared.Answer.the-variants.{Done}
 use Rattle.kinds.specs.declared.ReadAnswer.{ReadAnswer}
 use Rattle.kinds.specs.declared.ReadAnswer.the-variants.{None}
-use Rattle.kinds.specs.Sizes.{Sizes, Roomy}
+use Rattle.words.specs.Sizes.{Sizes, Roomy}
 use Rattle.rules.specs.Numbers.{badSize, chainTooLong, readSetFull, readNumber}
-use Rattle.kinds.specs.Lists.{first}
+use Rattle.words.specs.Lists.{first}
 use Rattle.kinds.specs.Versions.{at, versionAt}
-use Rattle.kinds.specs.Slots.{Slot, Rec}
+use Rattle.words.specs.Slots.{Slot, Rec}
 use Rattle.rules.specs.Memory.{Mem, slotAt, wordsAt, sizeR}
 use Rattle.rules.specs.Chain.{Chain}
 use Rattle.rules.specs.Outcome.{Outcome, refuse, test, fits, slotTests, rowTest, refuseRead}

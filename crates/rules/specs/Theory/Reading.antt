@@ -11,11 +11,11 @@ use lib.Dec.{eqb, leb}
 use lib.ListN.{length, take, getD}
 use borrow.Author.Tests.{eqb-true, ne-eqb, leb-true, leb-false, le-leb}
 use Rattle.kinds.specs.declared.Version.{Version}
-use Rattle.kinds.specs.Sizes.{Sizes}
+use Rattle.words.specs.Sizes.{Sizes}
 use Rattle.rules.specs.Numbers.{chainTooLong, readSetFull}
-use Rattle.kinds.specs.Lists.{first, orElse, last, nonzero}
+use Rattle.words.specs.Lists.{first, orElse, last, nonzero}
 use Rattle.kinds.specs.Versions.{at}
-use Rattle.kinds.specs.Slots.{Slot, rec, Write, Rec}
+use Rattle.words.specs.Slots.{Slot, rec, Write, Rec}
 use Rattle.kinds.specs.Visible.{visible}
 use Rattle.rules.specs.Chain.{Look, found, nothing, tooLong, look, lookOf}
 use Rattle.rules.specs.Read.{sees, own, answerAt, recorded, Sight, blocked, sightOf, ownSight, readRow}

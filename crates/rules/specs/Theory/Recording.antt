@@ -9,8 +9,8 @@ use native.Mathlib.Omega.{arith}
 use lib.Dec.{eqb, leb}
 use lib.ListN.{getD, length, length-append}
 use borrow.Author.Tests.{eqb-false, leb-false}
-use Rattle.kinds.specs.Sizes.{Sizes}
-use Rattle.kinds.specs.Slots.{Rec, Slot, Write}
+use Rattle.words.specs.Sizes.{Sizes}
+use Rattle.words.specs.Slots.{Rec, Slot, Write}
 use Rattle.rules.specs.Chain.{Look}
 use Rattle.rules.specs.Outcome.{isCell}
 use Rattle.rules.specs.Read.{recorded, Sight, blocked, sees, sightOf, own, ownSight, readRow}

@@ -12,10 +12,10 @@ use borrow.Author.Tests.{leb-false, eq-eqb, ne-eqb}
 use Rattle.kinds.specs.declared.Answer.{Answer}
 use Rattle.kinds.specs.declared.Answer.the-variants.{Done, Begun, Wrote, Vacuumed, Listed}
 use Rattle.kinds.specs.declared.ReadAnswer.{ReadAnswer}
-use Rattle.kinds.specs.Sizes.{Sizes, READS, WRITES}
-use Rattle.kinds.specs.Lists.{keep}
+use Rattle.words.specs.Sizes.{Sizes, READS, WRITES}
+use Rattle.words.specs.Lists.{keep}
 use Rattle.kinds.specs.Versions.{at, versionAt}
-use Rattle.kinds.specs.Slots.{Rec, slotOf, Slot, addRecs, write, Write, emptied}
+use Rattle.words.specs.Slots.{Rec, slotOf, Slot, addRecs, write, Write, emptied}
 use Rattle.rules.specs.Memory.{Mem, withSlot, wordsAt, sizeR, headAt, free, slotAt, clock}
 use Rattle.rules.specs.Chain.{After, goesOn, broken, ends}
 use Rattle.rules.specs.Snapshot.{vacant}

@@ -6,9 +6,9 @@ use mathlib.Core.Option.{some}
 use mathlib.Core.Path.{_≡_, _∙_, sym, subst, refl}
 use Prim.Native.Nat.{ℕ, _<_}
 use lib.ListN.{getD}
-use Rattle.kinds.specs.Sizes.{Sizes}
+use Rattle.words.specs.Sizes.{Sizes}
 use Rattle.kinds.specs.Versions.{at, versionAt}
-use Rattle.kinds.specs.Slots.{Slot, Write}
+use Rattle.words.specs.Slots.{Slot, Write}
 use Rattle.rules.specs.Memory.{Mem, headAt, slotAt}
 use Rattle.kinds.specs.Visible.{visible}
 use Rattle.rules.specs.Read.{sees}

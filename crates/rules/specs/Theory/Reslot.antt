@@ -8,7 +8,7 @@ use native.Mathlib.Omega.{arith}
 use lib.ListN.{getD, set}
 use lib.Seq.{getD-set-same, getD-set-other}
 use Rattle.kinds.specs.Versions.{at}
-use Rattle.kinds.specs.Slots.{Write, Rec, Slot}
+use Rattle.words.specs.Slots.{Write, Rec, Slot}
 use Rattle.kinds.specs.Visible.{creatorVisible}
 use Rattle.rules.specs.Abort.{news}
 use Rattle.rules.specs.History.{Val}

@@ -10,9 +10,9 @@ use lib.Dec.{eqb}
 use lib.ListN.{getD}
 use borrow.Author.Tests.{eq-eqb, ne-eqb, eqb-true}
 use Rattle.kinds.specs.declared.Version.{Version}
-use Rattle.kinds.specs.Lists.{orElse, last}
+use Rattle.words.specs.Lists.{orElse, last}
 use Rattle.kinds.specs.Versions.{at, withValue}
-use Rattle.kinds.specs.Slots.{Write}
+use Rattle.words.specs.Slots.{Write}
 use Rattle.rules.specs.Read.{own}
 use Rattle.rules.specs.Abort.{news}
 use Rattle.rules.specs.History.{said}

@@ -8,10 +8,10 @@ use native.Mathlib.Omega.{arith}
 use lib.Dec.{eqb}
 use lib.ListN.{length, length-set, getD}
 use lib.Seq.{getD-set-other}
-use Rattle.kinds.specs.Sizes.{Sizes, FREE, ROWS, CELLS, WRITES}
-use Rattle.kinds.specs.Lists.{fold, nonzero}
+use Rattle.words.specs.Sizes.{Sizes, FREE, ROWS, CELLS, WRITES}
+use Rattle.words.specs.Lists.{fold, nonzero}
 use Rattle.kinds.specs.Versions.{emptyVersion, versionAt}
-use Rattle.kinds.specs.Slots.{Write, emptied, write}
+use Rattle.words.specs.Slots.{Write, emptied, write}
 use Rattle.rules.specs.Memory.{Mem, sizeR, sizeN, free, headAt, withSlot, wordsAt}
 use Rattle.rules.specs.Write.{lockBase, prepared}
 use Rattle.rules.specs.Commit.{markBase, publish, publishAll}

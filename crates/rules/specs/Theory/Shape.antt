@@ -4,7 +4,7 @@ use Prim.Native.Nat.{ℕ, _≤_, _<_}
 use native.Mathlib.Omega.{arith}
 use lib.ListN.{length, getD, set, length-set}
 use lib.Seq.{getD-set-same, getD-set-other}
-use Rattle.kinds.specs.Sizes.{Sizes, Roomy, metaWords}
+use Rattle.words.specs.Sizes.{Sizes, Roomy, metaWords}
 use Rattle.rules.specs.Memory.{Mem, sizeR, sizeN}
 use Rattle.rules.specs.Theory.Cases.{byEq}
 use Rattle.rules.specs.Theory.SlotLaws.{SlotOk}

@@ -7,9 +7,9 @@ use native.Mathlib.Numerals.{add-one}
 use native.Mathlib.Omega.{arith}
 use lib.ListN.{getD, length, length-set, set, drop, replicate, length-replicate}
 use lib.Seq.{getD-set-other, getD-set-same, append-snoc, sets, length-sets}
-use Rattle.kinds.specs.Sizes.{Sizes, used, ACTIVE, WRITES, READS, ID, LOW, TOP, Roomy}
-use Rattle.kinds.specs.Lists.{fold}
-use Rattle.kinds.specs.Slots.{words, threes, capped, push, rec, Slot, write, Write, Rec, addWrite, slotOf, addRec, addRecs, opened, emptied}
+use Rattle.words.specs.Sizes.{Sizes, used, ACTIVE, WRITES, READS, ID, LOW, TOP, Roomy}
+use Rattle.words.specs.Lists.{fold}
+use Rattle.words.specs.Slots.{words, threes, capped, push, rec, Slot, write, Write, Rec, addWrite, slotOf, addRec, addRecs, opened, emptied}
 
 -- ---- lists of words and of triples
 

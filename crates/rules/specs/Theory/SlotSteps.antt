@@ -10,9 +10,9 @@ use lib.Dec.{eqb}
 use lib.ListN.{getD, length, set}
 use lib.Seq.{getD-set-same, getD-set-other}
 use borrow.Author.Tests.{ne-eqb, eq-eqb, lt-ltb, le-ltb}
-use Rattle.kinds.specs.Lists.{has, greatest, least}
+use Rattle.words.specs.Lists.{has, greatest, least}
 use Rattle.kinds.specs.Versions.{at}
-use Rattle.kinds.specs.Slots.{Slot}
+use Rattle.words.specs.Slots.{Slot}
 use Rattle.kinds.specs.Visible.{creatorVisible}
 use Rattle.rules.specs.Snapshot.{snapLow, snapTop}
 use Rattle.rules.specs.Abort.{news}

@@ -8,9 +8,9 @@ use lib.Dec.{eqb}
 use borrow.Author.Tests.{eqb-true, not-false}
 use Rattle.kinds.specs.declared.Answer.{Answer}
 use Rattle.kinds.specs.declared.Answer.the-variants.{Begun, Done, Wrote, Vacuumed, Listed}
-use Rattle.kinds.specs.Sizes.{Sizes, Roomy}
+use Rattle.words.specs.Sizes.{Sizes, Roomy}
 use Rattle.rules.specs.Numbers.{badSize}
-use Rattle.kinds.specs.Lists.{orElse}
+use Rattle.words.specs.Lists.{orElse}
 use Rattle.rules.specs.Memory.{Mem}
 use Rattle.rules.specs.Outcome.{fits, Outcome, refuse, test}
 use Rattle.rules.specs.Create.{created, createOut}

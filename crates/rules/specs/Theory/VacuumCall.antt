@@ -10,10 +10,10 @@ use lib.Dec.{eqb, ltb}
 use lib.ListN.{getD, take, set}
 use borrow.Author.Tests.{ne-eqb, eqb-false, not-true, ltb-true, leb-false}
 use Rattle.kinds.specs.declared.Answer.{Answer}
-use Rattle.kinds.specs.Sizes.{Sizes}
-use Rattle.kinds.specs.Lists.{least, fold, nonzero, keep}
+use Rattle.words.specs.Sizes.{Sizes}
+use Rattle.words.specs.Lists.{least, fold, nonzero, keep}
 use Rattle.kinds.specs.Versions.{at, emptyVersion, versionAt}
-use Rattle.kinds.specs.Slots.{Slot, slotOf}
+use Rattle.words.specs.Slots.{Slot, slotOf}
 use Rattle.rules.specs.Memory.{Mem, clock, sizeN, headAt, withCells, free, sizeR}
 use Rattle.kinds.specs.Visible.{creatorVisible}
 use Rattle.rules.specs.Chain.{chain, chained, ends}

@@ -9,9 +9,9 @@ use lib.Seq.{getD-set-same, getD-set-other}
 use borrow.Author.Tests.{le-ltb, lt-ltb, lt-leb}
 use Rattle.kinds.specs.declared.Answer.{Answer}
 use Rattle.kinds.specs.declared.Answer.the-variants.{Vacuumed}
-use Rattle.kinds.specs.Sizes.{Sizes}
+use Rattle.words.specs.Sizes.{Sizes}
 use Rattle.rules.specs.Numbers.{resultFull}
-use Rattle.kinds.specs.Lists.{keep, fold}
+use Rattle.words.specs.Lists.{keep, fold}
 use Rattle.kinds.specs.Versions.{versionAt, valueOf, at}
 use Rattle.rules.specs.Memory.{Mem, withCells, sizeR}
 use Rattle.rules.specs.Chain.{Chain, ends}

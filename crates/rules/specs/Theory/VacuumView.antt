@@ -9,9 +9,9 @@ use native.Mathlib.Omega.{arith}
 use lib.ListN.{getD, set, length, length-set}
 use lib.Seq.{getD-set-same, getD-set-other}
 use Rattle.kinds.specs.declared.Version.{Version}
-use Rattle.kinds.specs.Lists.{keep}
+use Rattle.words.specs.Lists.{keep}
 use Rattle.kinds.specs.Versions.{at, withNext}
-use Rattle.kinds.specs.Slots.{Slot, Rec}
+use Rattle.words.specs.Slots.{Slot, Rec}
 use Rattle.rules.specs.History.{Val}
 use Rattle.rules.specs.Reachable.{All}
 use Rattle.rules.specs.Theory.Cases.{byBool, byEq}

@@ -7,9 +7,9 @@ use Prim.Native.Nat.{ℕ, _<_, suc}
 use lib.ListN.{getD}
 use borrow.Author.Tests.{ne-eqb, lt-ltb}
 use Rattle.kinds.specs.declared.Version.{Version}
-use Rattle.kinds.specs.Sizes.{Sizes}
+use Rattle.words.specs.Sizes.{Sizes}
 use Rattle.kinds.specs.Versions.{at, versionAt}
-use Rattle.kinds.specs.Slots.{Slot, Rec}
+use Rattle.words.specs.Slots.{Slot, Rec}
 use Rattle.rules.specs.Memory.{Mem, headAt, slotAt}
 use Rattle.kinds.specs.Visible.{creatorVisible}
 use Rattle.rules.specs.Reachable.{All}

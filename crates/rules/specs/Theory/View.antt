@@ -11,9 +11,9 @@ use lib.ListN.{take, getD, set, length}
 use lib.Seq.{getD-set-same, getD-set-other}
 use borrow.Author.Tests.{eq-eqb, ne-eqb}
 use Rattle.kinds.specs.declared.Version.{Version}
-use Rattle.kinds.specs.Sizes.{Sizes, ACTIVE, WRITES, READS}
+use Rattle.words.specs.Sizes.{Sizes, ACTIVE, WRITES, READS}
 use Rattle.kinds.specs.Versions.{versionAt, linkAt, putCell}
-use Rattle.kinds.specs.Slots.{rec, Slot, slotOf, words, threes, write}
+use Rattle.words.specs.Slots.{rec, Slot, slotOf, words, threes, write}
 use Rattle.rules.specs.Memory.{free, clock, Mem, headAt}
 use Rattle.rules.specs.Theory.Cases.{byEq}
 use Rattle.rules.specs.Theory.SlotLaws.{newSlot, capped-zero}

@@ -10,11 +10,11 @@ use lib.ListN.{getD}
 use borrow.Author.Tests.{eqb-true, not-false, ne-eqb, ltb-false, leb-false, eqb-false}
 use Rattle.kinds.specs.declared.Answer.{Answer}
 use Rattle.kinds.specs.declared.Version.{Version}
-use Rattle.kinds.specs.Sizes.{Sizes, WRITES}
+use Rattle.words.specs.Sizes.{Sizes, WRITES}
 use Rattle.rules.specs.Numbers.{damaged}
-use Rattle.kinds.specs.Lists.{first}
+use Rattle.words.specs.Lists.{first}
 use Rattle.kinds.specs.Versions.{lockedByOther, at, versionAt, unlocked, withValue}
-use Rattle.kinds.specs.Slots.{Write, Slot}
+use Rattle.words.specs.Slots.{Write, Slot}
 use Rattle.rules.specs.Memory.{Mem, sizeR, slotAt, headAt, sizeN, wordsAt, free}
 use Rattle.kinds.specs.Visible.{visible}
 use Rattle.rules.specs.Outcome.{Outcome, refuse, test, isCell, slotTests, rowTest}

@@ -8,9 +8,9 @@ use native.Mathlib.Omega.{arith}
 use lib.ListN.{getD}
 use borrow.Author.Tests.{ne-eqb, eq-eqb}
 use Rattle.kinds.specs.declared.Version.{Version}
-use Rattle.kinds.specs.Lists.{first}
+use Rattle.words.specs.Lists.{first}
 use Rattle.kinds.specs.Versions.{at, newVersion}
-use Rattle.kinds.specs.Slots.{Write, write}
+use Rattle.words.specs.Slots.{Write, write}
 use Rattle.rules.specs.Abort.{news}
 use Rattle.rules.specs.History.{Val, said}
 use Rattle.rules.specs.Theory.Cases.{byEq}

@@ -1,6 +1,6 @@
-use Rattle.kinds.specs.Lists.{greatest}
+use Rattle.words.specs.Lists.{greatest}
 use Rattle.slots.specs.OccupiedLaws.{rest, greatest-turn, greatest-end}
-use Rattle.kinds.specs.Sizes.{base, ID}
+use Rattle.words.specs.Sizes.{base, ID}
 use lib.ListN.{length}
 use Prim.Native.Nat.{_+_, _-_, _≤_, min, max}
 use mathlib.Core.Path.{_≡_, sym, ap, _∙_}

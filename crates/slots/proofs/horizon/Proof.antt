@@ -1,6 +1,6 @@
 use Rattle.rules.specs.Snapshot.{occupied, horizonOf}
-use Rattle.kinds.specs.Lists.{least}
-use Rattle.kinds.specs.Sizes.{base, LOW}
+use Rattle.words.specs.Lists.{least}
+use Rattle.words.specs.Sizes.{base, LOW}
 use lib.ListN.{take}
 use native.Mathlib.Omega.{arith}
 use mathlib.Core.Path.{ap, _∙_}

@@ -1,6 +1,6 @@
-use Rattle.kinds.specs.Lists as L
+use Rattle.words.specs.Lists as L
 use Rattle.slots.specs.OccupiedLaws.{rest, least-turn, least-end}
-use Rattle.kinds.specs.Sizes.{base}
+use Rattle.words.specs.Sizes.{base}
 use lib.ListN.{length}
 use Prim.Native.Nat.{_+_, _-_, _≤_, min}
 use mathlib.Core.Path.{_≡_, refl, sym, ap, _∙_}

@@ -1,5 +1,5 @@
 use Rattle.rules.specs.Snapshot.{occupied}
-use Rattle.kinds.specs.Lists.{least}
+use Rattle.words.specs.Lists.{least}
 use native.Mathlib.Omega.{arith}
 use borrow.Author.Tests.{eq-eqb, ne-eqb}
 use borrow.Author.Needs.{needs}

@@ -1,6 +1,6 @@
 use Rattle.rules.specs.Snapshot.{vacant}
 use Rattle.slots.specs.OccupiedLaws.{vacant-found, vacant-turn, vacant-end}
-use Rattle.kinds.specs.Sizes.{base}
+use Rattle.words.specs.Sizes.{base}
 use lib.ListN.{length, drop, take}
 use Prim.Native.Nat.{_+_, _-_, _≤_, min}
 use mathlib.Core.Path.{_≡_}

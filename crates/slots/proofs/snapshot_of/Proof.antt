@@ -1,5 +1,5 @@
 use Rattle.slots.specs.OccupiedLaws.{topOver, snap-top}
-use Rattle.kinds.specs.Sizes.{base}
+use Rattle.words.specs.Sizes.{base}
 use lib.ListN.{take}
 use mathlib.Core.Path.{ap, _∙_}
 use borrow.Author.Needs.{needs}

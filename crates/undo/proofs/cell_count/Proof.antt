@@ -1,5 +1,5 @@
 -- What lies past the end reads as 0.
-use Rattle.kinds.specs.Sizes.{CELLS}
+use Rattle.words.specs.Sizes.{CELLS}
 use lib.ListN.{List·getD-eq-default}
 use native.Mathlib.Omega.{arith}
 use mathlib.Core.Path.{sym}

@@ -4,8 +4,8 @@ use Rattle.undo.specs.UndoLaws.{lent}
 use Rattle.rules.specs.Abort.{abortTests}
 use Rattle.rules.specs.Verdicts.{verdict}
 use Rattle.rules.specs.Outcome.{each}
-use Rattle.kinds.specs.Slots.{slotOf, threes, write}
-use Rattle.kinds.specs.Sizes.{base}
+use Rattle.words.specs.Slots.{slotOf, threes, write}
+use Rattle.words.specs.Sizes.{base}
 use Prim.Native.Nat.{_+_, _*_, _-_, _≤_}
 use mathlib.Core.List.{[], _∷_}
 use native.Mathlib.Omega.{arith}

@@ -2,9 +2,9 @@
 use Rattle.undo.specs.UndoLaws.{lent, give-none, give-step, cells-left, still-cell}
 use Rattle.rules.specs.Theory.Bridge.{AllCells}
 use Rattle.rules.specs.Abort.{giveBack, news}
-use Rattle.kinds.specs.Lists.{fold}
-use Rattle.kinds.specs.Slots.{slotOf, threes, write}
-use Rattle.kinds.specs.Sizes.{base}
+use Rattle.words.specs.Lists.{fold}
+use Rattle.words.specs.Slots.{slotOf, threes, write}
+use Rattle.words.specs.Sizes.{base}
 use lib.ListN.{length}
 use Prim.Native.Nat.{_+_, _*_, _-_, _≤_}
 use native.Mathlib.Omega.{arith}

@@ -1,7 +1,7 @@
 -- Each way out is one law of `Rest`, with the tests passed on the way.
 use Rattle.vacuum.specs.Rest.{vacuumRest, comes, refuses, vacuum-bad-row, vacuum-bare, vacuum-no-head, vacuum-harmed, vacuum-full, vacuum-sweeps, vacuum-done}
 use Rattle.rules.specs.Memory.{mem}
-use Rattle.kinds.specs.Sizes.{base}
+use Rattle.words.specs.Sizes.{base}
 use lib.ListN.{length}
 use native.Mathlib.Omega.{arith}
 use mathlib.Core.List.{[]}

@@ -3,8 +3,8 @@ use Rattle.rules.specs.TestLaws.{tests-done, tests-stop, tests-next}
 use Rattle.validate.specs.Arenas.{lent, sized}
 use Rattle.rules.specs.Verdicts.{verdict}
 use Rattle.rules.specs.Outcome.{each}
-use Rattle.kinds.specs.Slots.{slotOf, threes, write}
-use Rattle.kinds.specs.Sizes.{base}
+use Rattle.words.specs.Slots.{slotOf, threes, write}
+use Rattle.words.specs.Sizes.{base}
 use Rattle.rules.specs.Commit.{baseTests}
 use Prim.Native.Nat.{_+_, _*_, _-_, _≤_}
 use mathlib.Core.Path.{_≡_, sym, _∙_}

@@ -1,5 +1,5 @@
 -- Each way out is one line of the rule of validation.
-use Rattle.kinds.specs.Slots.{slotOf}
+use Rattle.words.specs.Slots.{slotOf}
 use Rattle.kinds.specs.Visible.{conflict}
 use borrow.Author.Tests.{eq-eqb, ne-eqb, le-leb, lt-leb}
 use borrow.Author.Needs.{needs}

@@ -2,8 +2,8 @@ use Rattle.writes.specs.HeadLaws.{head-harmed, head-none, head-locked, h
 use Rattle.kinds.specs.Visible.{visible}
 use Rattle.kinds.specs.Versions.{lockedByOther}
 use Rattle.rules.specs.Memory.{mem}
-use Rattle.kinds.specs.Slots.{slotOf}
-use Rattle.kinds.specs.Sizes.{base}
+use Rattle.words.specs.Slots.{slotOf}
+use Rattle.words.specs.Sizes.{base}
 use Rattle.kinds.specs.declared.Version.{Version}
 use mathlib.Core.List.{[]}
 use mathlib.Core.Path.{sym, ap, _∙_}

@@ -1,5 +1,5 @@
 use Rattle.rules.specs.Verdicts.{verdict}
-use Rattle.kinds.specs.Sizes.{base, WRITES, FREE, CELLS}
+use Rattle.words.specs.Sizes.{base, WRITES, FREE, CELLS}
 use lib.ListN.{getD}
 use borrow.Author.Tests.{eq-eqb, ne-eqb, lt-ltb, le-ltb, le-leb, lt-leb}
 use native.Mathlib.Omega.{arith}

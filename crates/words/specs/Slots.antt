@@ -3,8 +3,8 @@ use Prim.Native.Nat.{ℕ, zero, suc, _+_, _*_, min}
 use mathlib.Core.List.{List, [], _∷_}
 use lib.ListN.{length, getD, set, replicate}
 use lib.Seq.{sets}
-use Rattle.kinds.specs.Sizes.{Sizes, ID, LOW, TOP, ACTIVE, WRITES, READS}
-use Rattle.kinds.specs.Lists.{fold}
+use Rattle.words.specs.Sizes.{Sizes, ID, LOW, TOP, ACTIVE, WRITES, READS}
+use Rattle.words.specs.Lists.{fold}
 
 -- an entry of the write set
 pub record Write : Type 0 where

@@ -1,13 +1,13 @@
-use Rattle.kinds.specs.WordLaws.{has-done, has-found, has-next}
-use Rattle.kinds.specs.Slots.{words, slotOf}
-use Rattle.kinds.specs.Lists.{has}
-use Rattle.kinds.specs.Sizes.{base, ACTIVE}
+use Rattle.words.specs.WordLaws.{has-done, has-found, has-next}
+use Rattle.words.specs.Slots.{words, slotOf}
+use Rattle.words.specs.Lists.{has}
+use Rattle.words.specs.Sizes.{base, ACTIVE}
 use Prim.Native.Nat.{_+_, _≤_}
 use mathlib.Core.Path.{_≡_, sym, ap, _∙_}
 use native.Mathlib.Omega.{arith}
 use borrow.Author.Needs.{needs}
-use Rattle.kinds.proofs.is_active.Statement.{statement}
-use Rattle.kinds.proofs.is_active.Tie as tie
+use Rattle.words.proofs.is_active.Statement.{statement}
+use Rattle.words.proofs.is_active.Tie as tie
 
 abbrev Inv-loop : tie.InvT-loop
 Inv-loop slot id left₀ a₀ left a = (a + left ≤ base .width) × (has id (words slot a left) ≡ has id (slotOf base slot .active))

@@ -7,8 +7,8 @@ use mathlib.Core.Logic.{_≢_}
 use native.Mathlib.Omega.{arith}
 use lib.ListN.{getD}
 use borrow.Author.Tests.{eq-eqb, ne-eqb}
-use Rattle.kinds.specs.Lists.{has}
-use Rattle.kinds.specs.Slots.{words, threes}
+use Rattle.words.specs.Lists.{has}
+use Rattle.words.specs.Slots.{words, threes}
 
 pub words-step : (t : List ℕ) (a k : ℕ) → 0 < k → words t a k ≡ getD t a 0 ∷ words t (a + 1) (k - 1)
 unfolding words
