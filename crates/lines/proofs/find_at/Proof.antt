@@ -6,23 +6,18 @@ use Rattle.lines.proofs.find_at.Reads as reads
 use Rattle.lines.proofs.find_at.Lts as lts
 use Rattle.lines.proofs.three_at.Reads as three-at-reads
 
--- src/lib.rt:275:11
 three-at-requires : tie.Need-three-at-requires
 three-at-requires c κs = search needs
 
--- src/lib.rt:276:23
 enum-known-a : tie.Need-enum-known-a
 enum-known-a c = search needs
 
--- src/lib.rt:281:28
 enum-told : tie.Need-enum-told
 enum-told c = search needs
 
--- src/lib.rt:271:1
 returns : tie.Need-returns
 returns c = find-told (c .before .before .before .before .before .args .s .now) (c .before .before .before .before .before .args .at) _ (c .before .before .before .three-at .ensures) _ (c .before .a .given .1)
 
--- src/lib.rt:271:1
 returns-2 : tie.Need-returns-2
 returns-2 c = find-told (c .before .before .before .before .args .s .now) (c .before .before .before .before .args .at) _ (c .before .before .three-at .ensures) _ (c .enum-told .given .1)
 

@@ -14,167 +14,126 @@ use Rattle.lines.proofs.read_at.Reads as read-at-reads
 use Rattle.lines.proofs.word_of.Reads as word-of-reads
 use Rattle.lines.proofs.write_at.Reads as write-at-reads
 
--- src/lib.rt:289:9
 comma-requires : tie.Need-comma-requires
 comma-requires c κs = search needs
 
--- src/lib.rt:290:19
 slice-aggregate-word-of : tie.Need-slice-aggregate-word-of
 slice-aggregate-word-of c = sym (length-take-le (c .before .comma .result) (c .before .before .before .args .s .now) (c .before .comma .ensures .high))
 
--- src/lib.rt:290:11
 word-of-requires : tie.Need-word-of-requires
 word-of-requires c κs = search needs
 
--- src/lib.rt:291:30
 enum-told : tie.Need-enum-told
 enum-told c = search needs
 
--- src/lib.rt:291:30
 pair-at-requires : tie.Need-pair-at-requires
 pair-at-requires c κs = search needs
 
--- src/lib.rt:292:25
 enum-known-a : tie.Need-enum-known-a
 enum-known-a c = search needs
 
--- src/lib.rt:293:30
 enum-told-2 : tie.Need-enum-told-2
 enum-told-2 c = search needs
 
--- src/lib.rt:296:21
 enum-told-3 : tie.Need-enum-told-3
 enum-told-3 c = search needs
 
--- src/lib.rt:297:17
 returns : tie.Need-returns
 returns c = begins (c .before .before .before .before .before .before .before .args .s .now) (c .before .before .before .before .before .comma .result) (c .before .before .before .before .before .comma .ensures) (c .before .before .before .word-of .result) (c .before .before .before .word-of .ensures) (c .before .enum-told3 .given .1) (c .if1 .taken)
 
--- src/lib.rt:301:23
 enum-told-4 : tie.Need-enum-told-4
 enum-told-4 c = search needs
 
--- src/lib.rt:301:23
 read-at-requires : tie.Need-read-at-requires
 read-at-requires c κs = search needs
 
--- src/lib.rt:302:24
 enum-told-5 : tie.Need-enum-told-5
 enum-told-5 c = search needs
 
--- src/lib.rt:302:24
 write-at-requires : tie.Need-write-at-requires
 write-at-requires c κs = search needs
 
--- src/lib.rt:303:31
 enum-told-6 : tie.Need-enum-told-6
 enum-told-6 c = search needs
 
--- src/lib.rt:303:31
 pair-at-requires-2 : tie.Need-pair-at-requires-2
 pair-at-requires-2 c κs = search needs
 
--- src/lib.rt:304:25
 enum-known-a-2 : tie.Need-enum-known-a-2
 enum-known-a-2 c = search needs
 
--- src/lib.rt:305:30
 enum-told-7 : tie.Need-enum-told-7
 enum-told-7 c = search needs
 
--- src/lib.rt:307:30
 enum-told-8 : tie.Need-enum-told-8
 enum-told-8 c = search needs
 
--- src/lib.rt:307:30
 pair-at-requires-3 : tie.Need-pair-at-requires-3
 pair-at-requires-3 c κs = search needs
 
--- src/lib.rt:308:25
 enum-known-a-3 : tie.Need-enum-known-a-3
 enum-known-a-3 c = search needs
 
--- src/lib.rt:309:30
 enum-told-9 : tie.Need-enum-told-9
 enum-told-9 c = search needs
 
--- src/lib.rt:311:31
 enum-told-10 : tie.Need-enum-told-10
 enum-told-10 c = search needs
 
--- src/lib.rt:311:31
 pair-at-requires-4 : tie.Need-pair-at-requires-4
 pair-at-requires-4 c κs = search needs
 
--- src/lib.rt:312:25
 enum-known-a-4 : tie.Need-enum-known-a-4
 enum-known-a-4 c = search needs
 
--- src/lib.rt:313:30
 enum-told-11 : tie.Need-enum-told-11
 enum-told-11 c = search needs
 
--- src/lib.rt:315:23
 enum-told-12 : tie.Need-enum-told-12
 enum-told-12 c = search needs
 
--- src/lib.rt:315:23
 find-at-requires : tie.Need-find-at-requires
 find-at-requires c κs = search needs
 
--- src/lib.rt:316:24
 enum-told-13 : tie.Need-enum-told-13
 enum-told-13 c = search needs
 
--- src/lib.rt:286:1
 returns-2 : tie.Need-returns-2
 returns-2 c = stores (c .before .before .before .before .before .before .before .before .before .before .args .s .now) (c .before .before .before .before .before .before .before .before .comma .result) (c .before .before .before .before .before .before .before .before .comma .ensures) (c .before .before .before .before .before .before .word-of .result) (c .before .before .before .before .before .before .word-of .ensures) _ (c .before .before .before .pair-at .ensures) _ (c .before .a .given .1) (c .before .before .before .before .enum-told .given .1)
 
--- src/lib.rt:286:1
 returns-3 : tie.Need-returns-3
 returns-3 c = stores (c .before .before .before .before .before .before .before .before .before .args .s .now) (c .before .before .before .before .before .before .before .comma .result) (c .before .before .before .before .before .before .before .comma .ensures) (c .before .before .before .before .before .word-of .result) (c .before .before .before .before .before .word-of .ensures) _ (c .before .before .pair-at .ensures) _ (c .enum-told2 .given .1) (c .before .before .before .enum-told .given .1)
 
--- src/lib.rt:286:1
 returns-4 : tie.Need-returns-4
 returns-4 c = begins-not (c .before .before .before .before .before .before .before .args .s .now) (c .before .before .before .before .before .comma .result) (c .before .before .before .before .before .comma .ensures) (c .before .before .before .word-of .result) (c .before .before .before .word-of .ensures) (c .before .enum-told3 .given .1) (c .if1 .left)
 
--- src/lib.rt:286:1
 returns-5 : tie.Need-returns-5
 returns-5 c = c .read-at .ensures ∙ sym (arm (c .before .before .before .before .before .before .before .args .s .now) (c .before .before .before .before .before .comma .result) (c .before .before .before .before .before .comma .ensures) (c .before .before .before .word-of .result) (c .before .before .before .word-of .ensures) Word.Read (c .before .enum-told4 .given .1))
 
--- src/lib.rt:286:1
 returns-6 : tie.Need-returns-6
 returns-6 c = c .write-at .ensures ∙ writes (c .before .before .before .before .before .before .before .args .s .now) (c .before .before .before .before .before .comma .result) (c .before .before .before .before .before .comma .ensures) (c .before .before .before .word-of .result) (c .before .before .before .word-of .ensures) (c .before .enum-told5 .given .1)
 
--- src/lib.rt:286:1
 returns-7 : tie.Need-returns-7
 returns-7 c = commits (c .before .before .before .before .before .before .before .before .before .before .args .s .now) (c .before .before .before .before .before .before .before .before .comma .result) (c .before .before .before .before .before .before .before .before .comma .ensures) (c .before .before .before .before .before .before .word-of .result) (c .before .before .before .before .before .before .word-of .ensures) _ (c .before .before .before .pair-at2 .ensures) _ (c .before .a2 .given .1) (c .before .before .before .before .enum-told6 .given .1)
 
--- src/lib.rt:286:1
 returns-8 : tie.Need-returns-8
 returns-8 c = commits (c .before .before .before .before .before .before .before .before .before .args .s .now) (c .before .before .before .before .before .before .before .comma .result) (c .before .before .before .before .before .before .before .comma .ensures) (c .before .before .before .before .before .word-of .result) (c .before .before .before .before .before .word-of .ensures) _ (c .before .before .pair-at2 .ensures) _ (c .enum-told7 .given .1) (c .before .before .before .enum-told6 .given .1)
 
--- src/lib.rt:286:1
 returns-9 : tie.Need-returns-9
 returns-9 c = aborts (c .before .before .before .before .before .before .before .before .before .before .args .s .now) (c .before .before .before .before .before .before .before .before .comma .result) (c .before .before .before .before .before .before .before .before .comma .ensures) (c .before .before .before .before .before .before .word-of .result) (c .before .before .before .before .before .before .word-of .ensures) _ (c .before .before .before .pair-at3 .ensures) _ (c .before .a3 .given .1) (c .before .before .before .before .enum-told8 .given .1)
 
--- src/lib.rt:286:1
 returns-10 : tie.Need-returns-10
 returns-10 c = aborts (c .before .before .before .before .before .before .before .before .before .args .s .now) (c .before .before .before .before .before .before .before .comma .result) (c .before .before .before .before .before .before .before .comma .ensures) (c .before .before .before .before .before .word-of .result) (c .before .before .before .before .before .word-of .ensures) _ (c .before .before .pair-at3 .ensures) _ (c .enum-told9 .given .1) (c .before .before .before .enum-told8 .given .1)
 
--- src/lib.rt:286:1
 returns-11 : tie.Need-returns-11
 returns-11 c = vacuums (c .before .before .before .before .before .before .before .before .before .before .args .s .now) (c .before .before .before .before .before .before .before .before .comma .result) (c .before .before .before .before .before .before .before .before .comma .ensures) (c .before .before .before .before .before .before .word-of .result) (c .before .before .before .before .before .before .word-of .ensures) _ (c .before .before .before .pair-at4 .ensures) _ (c .before .a4 .given .1) (c .before .before .before .before .enum-told10 .given .1)
 
--- src/lib.rt:286:1
 returns-12 : tie.Need-returns-12
 returns-12 c = vacuums (c .before .before .before .before .before .before .before .before .before .args .s .now) (c .before .before .before .before .before .before .before .comma .result) (c .before .before .before .before .before .before .before .comma .ensures) (c .before .before .before .before .before .word-of .result) (c .before .before .before .before .before .word-of .ensures) _ (c .before .before .pair-at4 .ensures) _ (c .enum-told11 .given .1) (c .before .before .before .enum-told10 .given .1)
 
--- src/lib.rt:286:1
 returns-13 : tie.Need-returns-13
 returns-13 c = c .find-at .ensures ∙ sym (arm (c .before .before .before .before .before .before .before .args .s .now) (c .before .before .before .before .before .comma .result) (c .before .before .before .before .before .comma .ensures) (c .before .before .before .word-of .result) (c .before .before .before .word-of .ensures) Word.Find (c .before .enum-told12 .given .1))
 
--- src/lib.rt:286:1
 returns-14 : tie.Need-returns-14
 returns-14 c = unknown (c .before .before .before .before .before .before .args .s .now) (c .before .before .before .before .comma .result) (c .before .before .before .before .comma .ensures) (c .before .before .word-of .result) (c .before .before .word-of .ensures) (c .enum-told13 .given .1)
 

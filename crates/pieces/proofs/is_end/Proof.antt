@@ -4,11 +4,9 @@ use Rattle.pieces.proofs.is_end.Tie as tie
 use Rattle.pieces.proofs.is_end.Reads as reads
 use Rattle.pieces.proofs.is_end.Lts as lts
 
--- src/lib.rt:34:9
 returns : tie.Need-returns
 returns c = rw (not-true (c .before .args .cr) (c .if1 .taken))
 
--- src/lib.rt:30:1
 returns-2 : tie.Need-returns-2
 returns-2 c = rw (not-false (c .before .args .cr) (c .if1 .left))
 

@@ -21,51 +21,39 @@ Inv-loop front₀ piece from count₀ cr₀ i₀ front count cr i =
 abbrev μ-loop : tie.MeasureT-loop
 μ-loop front₀ piece from count₀ cr₀ i₀ front count cr i = length piece - i
 
--- src/lib.rt:68:5
 loop-holds : tie.Need-loop-holds Inv-loop μ-loop
 loop-holds c = (search needs, search needs, c .before .before .pre .0, refl, λ p x. holds-start (c .before .before .args .piece .now) (c .before .before .args .from) p _ _ x)
 
--- src/lib.rt:69:17
 shared-slice-read-b : tie.Need-shared-slice-read-b Inv-loop μ-loop
 shared-slice-read-b c = search needs
 
--- src/lib.rt:70:9
 add-i : tie.Need-add-i Inv-loop μ-loop
 add-i c = search needs
 
--- src/lib.rt:71:12
 is-end-requires : tie.Need-is-end-requires Inv-loop μ-loop
 is-end-requires c κs = search needs
 
--- src/lib.rt:73:24
 sub-t14 : tie.Need-sub-t14 Inv-loop μ-loop
 sub-t14 c = c .before .before .before .before .loop .inv .2 .some-byte (is-cr _ _ (sym (c .before .is-end .ensures) ∙ c .if1 .taken))
 
--- src/lib.rt:72:13
 same-length : tie.Need-same-length Inv-loop μ-loop
 same-length c = c .before .before .before .before .loop .inv .3
 
--- src/lib.rt:72:13
 returns : tie.Need-returns Inv-loop μ-loop
 returns c = ((omega (arith, c .before .before .before .before .loop .inv .2 .fits), (search needs, search needs)), (c .before .before .before .before .loop .inv .3, λ p x. ended (c .before .before .before .before .before .before .before .args .piece .now) (c .before .before .before .before .before .before .before .args .from) (c .before .before .before .before .loop .i) (c .before .before .before .before .loop .inv .0) p _ _ (c .before .before .before .before .loop .inv .4 p x) (search needs) (sym (c .before .is-end .ensures) ∙ c .if1 .taken)))
 
--- src/lib.rt:77:9
 put-requires : tie.Need-put-requires Inv-loop μ-loop
 put-requires c κs = search needs
 
--- src/lib.rt:68:5
 loop-less : tie.Need-loop-less Inv-loop μ-loop
 loop-less c = search needs
 
--- src/lib.rt:68:5
 loop-again : tie.Need-loop-again Inv-loop μ-loop
 loop-again c = (search needs, search needs, record { some-room = omega (arith, c .before .before .before .before .before .before .before .before .loop .inv .2 .some-room, c .before .before .put .ensures .same-length); fits = omega (arith, c .before .before .put .ensures .counted (c .before .before .before .before .before .before .before .before .loop .inv .2 .fits), c .before .before .put .ensures .same-length); some-byte = λ e. omega (arith, c .before .before .before .before .before .before .before .before .loop .inv .2 .some-room, c .before .before .put .ensures .counted (c .before .before .before .before .before .before .before .before .loop .inv .2 .fits)) }, c .before .before .put .ensures .same-length ∙ c .before .before .before .before .before .before .before .before .loop .inv .3, λ p x. holds-next (c .before .before .before .before .before .before .before .before .before .before .before .args .piece .now) (c .before .before .before .before .before .before .before .before .before .before .before .args .from) (c .before .before .before .before .before .before .before .before .loop .i) (c .before .before .before .before .before .before .before .before .loop .inv .0) p _ _ (c .before .before .before .before .before .before .before .before .loop .inv .4 p x) (search needs) _ _ (c .before .before .put .ensures) (sym (c .before .before .before .before .before .is-end .ensures) ∙ c .before .before .before .before .if1 .left))
 
--- src/lib.rt:58:1
 same-length-2 : tie.Need-same-length-2 Inv-loop μ-loop
 same-length-2 c = c .before .loop .inv .3
 
--- src/lib.rt:58:1
 returns-2 : tie.Need-returns-2 Inv-loop μ-loop
 returns-2 c = (c .before .loop .inv .2, (c .before .loop .inv .3, λ p x. rw (between-all (c .before .before .before .before .args .piece .now) (c .before .before .before .before .args .from) (c .before .loop .i) (c .before .loop .inv .0) (search needs)) at (c .before .loop .inv .4 p x)))
 

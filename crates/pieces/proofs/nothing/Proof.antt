@@ -5,7 +5,6 @@ use Rattle.pieces.proofs.nothing.Tie as tie
 use Rattle.pieces.proofs.nothing.Reads as reads
 use Rattle.pieces.proofs.nothing.Lts as lts
 
--- src/lib.rt:51:1
 returns : tie.Need-returns
 returns c = (sane-nothing, holds-nothing)
 

@@ -9,23 +9,18 @@ use Rattle.pieces.proofs.put.Tie as tie
 use Rattle.pieces.proofs.put.Reads as reads
 use Rattle.pieces.proofs.put.Lts as lts
 
--- src/lib.rt:41:9
 returns : tie.Need-returns
 returns c = record { same-length = refl; counted = λ h. omega arith; stored = λ h. absurd (omega arith); full = λ h. refl }
 
--- src/lib.rt:43:5
 slice-write-front : tie.Need-slice-write-front
 slice-write-front c = search needs
 
--- src/lib.rt:44:5
 add-result : tie.Need-add-result
 add-result c = search needs
 
--- src/lib.rt:37:1
 same-length : tie.Need-same-length
 same-length c = search needs
 
--- src/lib.rt:37:1
 returns-2 : tie.Need-returns-2
 returns-2 c = record { same-length = simp length-set; counted = λ h. omega arith; stored = λ h. rw (add-one (c .before .args .count)) (take-suc-set (c .before .args .front .now) (c .before .args .count) (c .before .args .b) h); full = λ h. absurd (omega arith) }
 
