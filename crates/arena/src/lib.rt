@@ -1,5 +1,6 @@
 // The arena of cells: a version read and stored whole, the walk along a chain, the free list.
 use kinds::Cell;
+use kinds::Verdict;
 use kinds::Version;
 use words::CELL_WORDS;
 use words::FREE;
@@ -7,12 +8,17 @@ use words::TxId;
 use words::WALK;
 use words::WIDTH;
 ghost use mathlib.Core.Path.{_≡_};
+ghost use mathlib.Core.Bool.{not};
+ghost use mathlib.Core.List.{[], _∷_};
 ghost use Prim.Native.Nat.{_≤_};
 ghost use lib.ListN.{length, getD, set};
 ghost use Rattle.words.specs.Sizes.{base, metaWords};
 ghost use Rattle.words.specs.Sizes as words;
 ghost use Rattle.kinds.specs.Versions.{emptyVersion, versionOf, wordsOf, versionAt, linkAt, putCell, putVersion};
 ghost use Rattle.words.specs.Slots.{slotOf};
+ghost use Rattle.rules.specs.Numbers.{damaged};
+ghost use Rattle.rules.specs.Outcome.{test, isCell};
+ghost use Rattle.rules.specs.Verdicts.{verdict};
 ghost use Rattle.rules.specs.Chain.{look};
 ghost use Rattle.rules.specs.Theory.CellLaws.{HasCell};
 ghost use Rattle.arena.specs.Sights.{sighted};
@@ -25,6 +31,19 @@ pub fn word_at(words: &[u64], i: usize) -> u64
         return words[i];
     }
     0
+}
+
+// A number that a call is about to use as a cell's, in a store of n cells.
+pub fn check_cell(n: u64, cell: Cell) -> Verdict
+    ensures { λ v. ⌜ v ≡ verdict (test (not (isCell n (cell .0))) damaged 0 ∷ []) ⌝ }
+{
+    if cell.0 == 0 {
+        return Verdict::DAMAGED;
+    }
+    if n < cell.0 {
+        return Verdict::DAMAGED;
+    }
+    Verdict::Fine
 }
 
 // A cell's words, read as a version.

@@ -5,7 +5,6 @@ use kinds::Verdict;
 use reads::Sight;
 use words::BAD_ROW;
 use words::CELL_WORDS;
-use words::DAMAGED;
 use words::MOST_ROWS;
 use words::MOST_WRITES;
 use words::RESULT_FULL;
@@ -69,10 +68,11 @@ pub fn check_candidates(candidates: &[u64], r: u64) -> Verdict
 {
     let mut i = 0;
     while i < candidates.len() {
-        if r <= candidates[i] {
+        let row = candidates[i];
+        if r <= row {
             return Verdict::Refused {
                 number: BAD_ROW,
-                value: candidates[i],
+                value: row,
             };
         }
         i += 1;
@@ -88,10 +88,7 @@ pub fn check_own(slot: &[u64; WIDTH], r: u64) -> Verdict
     let mut at = WRITES + 1;
     while rest > 0 {
         if r <= slot[at] {
-            return Verdict::Refused {
-                number: DAMAGED,
-                value: 0,
-            };
+            return Verdict::DAMAGED;
         }
         at += 3;
         rest -= 1;

@@ -5,7 +5,6 @@ use words::BAD_SLOT;
 use words::CELL_WORDS;
 use words::CELLS;
 use words::CLOCK;
-use words::DAMAGED;
 use words::ID;
 use words::META_WORDS;
 use words::MOST_CELLS;
@@ -91,10 +90,7 @@ pub fn check_store(
     ensures { λ v. ⌜ v ≡ verdict (storeTests (memIn meta rows cells slots)) ⌝ }
 {
     if is_damaged(meta, rows, cells, slots) {
-        return Verdict::Refused {
-            number: DAMAGED,
-            value: 0,
-        };
+        return Verdict::DAMAGED;
     }
     Verdict::Fine
 }
@@ -135,10 +131,7 @@ fn check_owner(slot: &[u64; WIDTH], id: TxId) -> Verdict
         };
     }
     if is_overfull(slot) {
-        return Verdict::Refused {
-            number: DAMAGED,
-            value: 0,
-        };
+        return Verdict::DAMAGED;
     }
     Verdict::Fine
 }

@@ -1,4 +1,5 @@
 // The kinds of the version store, and what belongs to a version. What the calls mean stands in `rules`.
+use words::DAMAGED;
 use words::ID;
 use words::TOP;
 use words::TxId;
@@ -54,6 +55,14 @@ pub enum Answer {
 pub enum Verdict {
     Fine,
     Refused { number: u64, value: u64 },
+}
+
+impl Verdict {
+    // 15, which tells nothing more.
+    pub const DAMAGED: Verdict = Verdict::Refused {
+        number: DAMAGED,
+        value: 0,
+    };
 }
 
 // ---- visibility

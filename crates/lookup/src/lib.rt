@@ -82,17 +82,9 @@ fn search(
     width(copy);
     let mut listed = [0; MOST_ROWS];
     let room = results.len() as u64;
-    match finds::scan(
-        rows,
-        cells,
-        meta[ROWS],
-        meta[CELLS],
-        &mut copy,
-        marks,
-        &mut listed,
-        room,
-        key,
-    ) {
+    let r = meta[ROWS];
+    let n = meta[CELLS];
+    match finds::scan(rows, cells, r, n, &mut copy, marks, &mut listed, room, key) {
         Listing::Stopped { number, value } => Answer::Refused { number, value },
         Listing::Rows(count) => match late {
             Verdict::Refused { number, value } => Answer::Refused { number, value },

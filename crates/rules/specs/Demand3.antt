@@ -237,7 +237,7 @@ module _ {z : Sizes} (rm : Roomy z) (m : Mem z) (l : Log) (rc : Reachable m l) w
   pub accepted-commit-replaces-what-it-saw : (s id : ℕ) → commitOut m s id .answer ≡ Done → All (λ w. lastIn l (w .row) ≡ viewIn l s (w .row)) (slotAt m s .writes)
   accepted-commit-replaces-what-it-saw s id e =
       let p = passed-split (slotTests m s id) _ (commit-tested m s id e) in
-      tested-saw (rowsIn l) (cellsIn l) m (histOf l) so s id (owner m s id (p .0)) (commit-facts m (so .shaped) (slotAt m s) (slotAt m s .writes) (p .1) .0)
+      tested-saw (rowsIn l) (cellsIn l) m (histOf l) so s id (owner m s id (p .0)) (commit-facts m m (so .shaped .rows) (so .shaped .cells) (slotAt m s) (slotAt m s .writes) (p .1) .0)
 
   -- ---- 6: lookups follow history
 

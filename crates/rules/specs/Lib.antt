@@ -57,6 +57,7 @@ pub mod LookupRows
 pub mod Published
 pub mod CommitPublishes
 pub mod LookupLists
+pub mod BufferForAll
 pub mod BeginTakes
 pub mod EveryRefusal
 pub mod DamagedWhen

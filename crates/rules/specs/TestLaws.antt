@@ -1,17 +1,20 @@
 -- Tests over a slot's list, entry by entry: what a loop knows where it is refused, goes on and ends.
 use Prim.Native.Nat.{ℕ, _+_, _-_, _<_, _≤_}
 use mathlib.Core.Bool.{true, false, not}
-use mathlib.Core.List.{List}
+use mathlib.Core.List.{List, [], _∷_}
 use mathlib.Core.Path.{_≡_, sym, ap, _∙_}
 use mathlib.Core.Logic.{_≢_}
+use native.Mathlib.Omega.{arith}
 use lib.ListN.{getD}
 use borrow.Author.Tests.{eq-eqb, ne-eqb, le-leb, lt-leb}
 use Rattle.kinds.specs.declared.Verdict.{Verdict}
 use Rattle.kinds.specs.declared.Verdict.the-variants.{Fine, Refused}
 use Rattle.words.specs.Slots.{threes}
 use Rattle.rules.specs.Outcome.{Test, each, isCell}
-use Rattle.rules.specs.Verdicts.{verdict, andThen, verdict-none, verdict-each}
+use Rattle.rules.specs.Verdicts.{verdict, andThen, verdict-append, verdict-none, verdict-each}
 use Rattle.words.specs.WordLaws.{threes-step, threes-done}
+use Rattle.rules.specs.Theory.Cases.{byBool}
+use Rattle.rules.specs.Theory.Guard.{Passed}
 
 -- a list of triples, tested in order
 module _ {A : Type 0} (mk : ℕ → ℕ → ℕ → A) (f : A → List Test) (t : List ℕ) (a k : ℕ) where
@@ -30,6 +33,25 @@ module _ {A : Type 0} (mk : ℕ → ℕ → ℕ → A) (f : A → List Test) (t 
   pub tests-stop : (v : Verdict) (x y : ℕ) → 0 < k → v ≡ verdict (f (mk (getD t a 0) (getD t (a + 1) 0) (getD t (a + 2) 0))) → v ≡ Refused x y
       → verdict (each f (threes mk t a k)) ≡ v
   tests-stop v x y h e q = tests-step h ∙ ap (λ (u : Verdict). andThen u (verdict (each f (threes mk t (a + 3) (k - 1))))) (sym e ∙ q) ∙ sym q
+
+-- ---- a fine verdict
+
+-- no test fails
+pub fine-passed : (l : List Test) → verdict l ≡ Fine → Passed l
+unfolding verdict
+fine-passed [] h = tt
+fine-passed (t ∷ l) h = byBool (t .fails)
+    (λ e. absurd (let g : Refused (t .number) (t .value) ≡ Fine = rw e at h in let z : _≡_ {A = ℕ} 0 1 = cc in omega arith))
+    (λ e. (e, fine-passed l (rw e at h)))
+
+-- ---- the first test, judged alone
+
+module _ (t : Test) (v : Verdict) (e : v ≡ verdict (t ∷ [])) where
+  pub first-fails : (l : List Test) (x y : ℕ) → v ≡ Refused x y → verdict (t ∷ l) ≡ v
+  first-fails l x y q = verdict-append (t ∷ []) l ∙ ap (λ (u : Verdict). andThen u (verdict l)) (sym e ∙ q) ∙ sym q
+
+  pub first-passes : v ≡ Fine → t .fails ≡ false
+  first-passes q = fine-passed (t ∷ []) (sym e ∙ q) .0
 
 -- ---- a cell's number
 

@@ -37,6 +37,10 @@ pub verdict-passes : (t : Test) (l : List Test) → t .fails ≡ false → verdi
 unfolding verdict
 verdict-passes t l e = rw e
 
+pub last-passes : (t : Test) → t .fails ≡ false → verdict (t ∷ []) ≡ Fine
+unfolding verdict
+last-passes t e = rw e
+
 -- the tests of a list's members, one after the other
 module _ {A : Type 0} (f : A → List Test) where
   pub verdict-none : verdict (each f []) ≡ Fine

@@ -3,23 +3,20 @@
 use Prim.Native.Nat.{ℕ, _+_, _-_, _<_, _≤_}
 use mathlib.Core.List.{List, [], _∷_}
 use mathlib.Core.Path.{_≡_, refl, sym, ap, _∙_}
-use native.Mathlib.Omega.{arith}
 use lib.ListN.{length, getD}
-use borrow.Author.Tests.{ltb-false}
-use Rattle.kinds.specs.declared.Verdict.the-variants.{Fine, Refused}
+use Rattle.kinds.specs.declared.Verdict.the-variants.{Fine}
 use Rattle.words.specs.Sizes.{Sizes, base}
 use Rattle.words.specs.Lists.{fold}
 use Rattle.words.specs.Slots.{Write, write, threes}
 use Rattle.rules.specs.Memory.{Mem, mem, sizeN}
-use Rattle.rules.specs.Outcome.{Test, each}
+use Rattle.rules.specs.Outcome.{each}
 use Rattle.rules.specs.Verdicts.{verdict}
 use Rattle.words.specs.WordLaws.{threes-step, threes-done}
 use Rattle.rules.specs.Abort.{unlockBase, news, giveBack, abortTests}
 use Rattle.rules.specs.Theory.Bridge.{BasesIn, AllCells}
 use Rattle.rules.specs.Theory.CellLaws.{HasCell}
-use Rattle.rules.specs.Theory.Cases.{byBool}
-use Rattle.rules.specs.Theory.Good.{cell-in}
-use Rattle.rules.specs.Theory.Guard.{Passed}
+use Rattle.rules.specs.Theory.AbortCall.{abort-entries-in}
+use Rattle.rules.specs.TestLaws.{fine-passed}
 
 -- the two arenas that an abort looks at
 abbrev pub lent : List ℕ → List (List ℕ) → Mem base
@@ -69,26 +66,10 @@ still-cell cs ds c e h = record { low = h .low; high = rw e (h .high) }
 
 -- ---- a fine judgement
 
--- no test fails
-fine-passed : (l : List Test) → verdict l ≡ Fine → Passed l
-unfolding verdict
-fine-passed [] h = tt
-fine-passed (t ∷ l) h = byBool (t .fails)
-    (λ e. absurd (let g : Refused (t .number) (t .value) ≡ Fine = rw e at h in let z : _≡_ {A = ℕ} 0 1 = cc in omega arith))
-    (λ e. (e, fine-passed l (rw e at h)))
-
 -- cs are any cells that are enough for the store: those before the unlocking, and those after it
 module _ {z : Sizes} (m : Mem z) (cs : List (List ℕ)) (n : sizeN m ≤ length cs) where
-  entries-in : (ws : List Write) → Passed (each (abortTests m) ws) → BasesIn cs ws × AllCells cs (news ws)
-  unfolding each
-  entries-in [] p = (tt, tt)
-  entries-in (w ∷ l) p =
-      let b : w .base ≤ sizeN m = ltb-false _ _ (p .0) in
-      let r = entries-in l (p .1 .1) in
-      ((omega arith, r .0), (cell-in (sizeN m) (w .new) cs n (p .1 .0), r .1))
-
   pub fine-bases : (ws : List Write) → verdict (each (abortTests m) ws) ≡ Fine → BasesIn cs ws
-  fine-bases ws h = entries-in ws (fine-passed _ h) .0
+  fine-bases ws h = abort-entries-in m cs n ws (fine-passed _ h) .0
 
   pub fine-news : (ws : List Write) → verdict (each (abortTests m) ws) ≡ Fine → AllCells cs (news ws)
-  fine-news ws h = entries-in ws (fine-passed _ h) .1
+  fine-news ws h = abort-entries-in m cs n ws (fine-passed _ h) .1

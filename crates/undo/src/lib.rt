@@ -1,4 +1,5 @@
 // Abort: its tests, then its changes in two passes. Every base of this id is unlocked before the first cell is given back.
+use arena::check_cell;
 use arena::give_back;
 use arena::put_version;
 use arena::version_at;
@@ -6,7 +7,6 @@ use kinds::Cell;
 use kinds::Verdict;
 use words::CELL_WORDS;
 use words::CELLS;
-use words::DAMAGED;
 use words::MOST_WRITES;
 use words::TxId;
 use words::WIDTH;
@@ -14,9 +14,8 @@ use words::WRITES;
 ghost use mathlib.Core.Path.{_≡_};
 ghost use mathlib.Core.List.{[], _∷_};
 ghost use Prim.Native.Nat.{min, _≤_};
-ghost use lib.ListN.{length, getD};
+ghost use lib.ListN.{length};
 ghost use Rattle.words.specs.Sizes.{base, metaWords};
-ghost use Rattle.words.specs.Sizes as words;
 ghost use Rattle.words.specs.Lists.{fold};
 ghost use Rattle.words.specs.Slots.{slotOf, write};
 ghost use Rattle.rules.specs.Outcome.{each};
@@ -25,47 +24,21 @@ ghost use Rattle.rules.specs.Abort.{unlockBase, news, giveBack, abortTests};
 ghost use Rattle.rules.specs.Theory.Bridge.{BasesIn, AllCells};
 ghost use Rattle.undo.specs.UndoLaws.{lent};
 
-// Paper 01's number for damage, the one refusal that an abort can come to after its slot.
-// The store's N; 0 where the arena is too short to say it.
-fn cell_count(meta: &[u64]) -> u64
-    ensures { λ r. ⌜ r ≡ getD (now (meta .entry)) words.CELLS 0 ⌝ }
-{
-    if meta.len() <= CELLS {
-        return 0;
-    }
-    meta[CELLS]
-}
-
 // One write's base and new cell, in a store of n cells.
 fn check_entry(n: u64, base: Cell, new: Cell) -> Verdict
     ensures { λ r. ⌜ r ≡ verdict (abortTests (lent (0 ∷ n ∷ []) []) (write 0 (base .0) (new .0))) ⌝ }
 {
     if n < base.0 {
-        return Verdict::Refused {
-            number: DAMAGED,
-            value: 0,
-        };
+        return Verdict::DAMAGED;
     }
-    if new.0 == 0 {
-        return Verdict::Refused {
-            number: DAMAGED,
-            value: 0,
-        };
-    }
-    if n < new.0 {
-        return Verdict::Refused {
-            number: DAMAGED,
-            value: 0,
-        };
-    }
-    Verdict::Fine
+    check_cell(n, new)
 }
 
 // All that an abort tests after its slot. Nothing is asked of the lent length.
 pub fn check_abort(meta: &[u64], slot: &[u64; WIDTH]) -> Verdict
     ensures { λ r. ⌜ r ≡ verdict (each (abortTests (lent (now (meta .entry)) [])) (slotOf base (now (slot .entry)) .writes)) ⌝ }
 {
-    let n = cell_count(meta);
+    let n = arena::word_at(meta, CELLS);
     let mut left = words::at_most(slot[WRITES], MOST_WRITES as u64);
     let mut a = WRITES + 1;
     while left > 0 {

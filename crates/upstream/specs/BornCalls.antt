@@ -13,11 +13,10 @@ use lib.Seq.{getD-set-same, getD-set-other}
 use borrow.Author.Tests.{leb-false, ltb-true, ltb-false, eqb-false, eq-eqb, ne-eqb}
 use Rattle.kinds.specs.declared.Answer.{Answer}
 use Rattle.kinds.specs.declared.ReadAnswer.{ReadAnswer}
-use Rattle.kinds.specs.declared.Version.{Version}
 use Rattle.words.specs.Sizes.{Sizes, lastId, READS, WRITES}
 use Rattle.rules.specs.Numbers.{clockSpent, noFreeSlot, damaged}
 use Rattle.words.specs.Lists.{fold, keep, least}
-use Rattle.kinds.specs.Versions.{versionAt, version, withNext, withValue, emptyVersion, keyedOf, keyOf}
+use Rattle.kinds.specs.Versions.{versionAt, version, withValue, emptyVersion, keyedOf, keyOf}
 use Rattle.words.specs.Slots.{Slot, Write, Rec, addRecs, emptied, slotOf}
 use Rattle.words.specs.Slots as S
 use Rattle.rules.specs.Memory.{Mem, sizeR, sizeN, clock, free, headAt, wordsAt, slotAt, withSlot, withCells}
@@ -39,9 +38,9 @@ use Rattle.rules.specs.CreateFresh.{created-sizes-and-clock, created-heads-are-
 use Rattle.rules.specs.Theory.Cases.{byEq, byBool}
 use Rattle.rules.specs.Theory.SlotLaws.{newSlot, withRecs, withWrite, slot-emptied}
 use Rattle.rules.specs.Theory.CellLaws.{HasCell}
-use Rattle.rules.specs.Theory.View.{View, viewOf, emptySlot, get-slots, slotsOf, upd, upd-other}
+use Rattle.rules.specs.Theory.View.{View, viewOf, emptySlot, get-slots, slotsOf, upd}
 use Rattle.rules.specs.Theory.Effects.{slotV, putSlot, withVers, beginV, bornV, idsV, prepareV, publishAllV, publishV, giveAllV, lockV, unlockV, relinkV}
-use Rattle.rules.specs.Theory.Bridge.{view-begin, view-recs, view-prepared, view-replaced, view-close, view-publish-all, view-give-all, unlock-vers, relink-vers, AllCells, all-cells, BasesIn}
+use Rattle.rules.specs.Theory.Bridge.{view-begin, view-recs, view-prepared, view-replaced, view-close, view-publish-all, view-give-all, unlock-vers, relink-vers, all-cells}
 use Rattle.rules.specs.Theory.Counting.{cnt, cnt-append, cnt-same, cnt-other, cnt-head, cnt-tail, sum-at}
 use Rattle.rules.specs.Theory.Inv.{Hist, Inv, Ver, Spelled, nexts, inSlot, vers, verOf, Entries, ownFind}
 use Rattle.rules.specs.Theory.Places.{spelled-first, inb-le, own-cell, chain-cell}
@@ -49,15 +48,17 @@ use Rattle.rules.specs.Theory.SlotSteps.{open-in, ids-differ}
 use Rattle.rules.specs.Theory.Publish.{part-off, part-on, part-same, ofNext}
 use Rattle.rules.specs.Theory.CommitView.{Tested, no-entry}
 use Rattle.rules.specs.Theory.Cells.{lock-part, unlock-part}
-use Rattle.rules.specs.Theory.VacuumView.{cnt-keep, relink-part}
+use Rattle.rules.specs.Theory.VacuumView.{cnt-keep, relink-part, relink-off}
 use Rattle.rules.specs.Theory.Recording.{Rightly, Noted}
-use Rattle.rules.specs.Theory.Guard.{Passed, guardCase, passed-split}
+use Rattle.rules.specs.Theory.Guard.{guardCase, passed-split}
 use Rattle.rules.specs.Theory.Same.{same-relink}
 use Rattle.rules.specs.Theory.Good.{Good, Owner, owner, view-open, view-id, slot-id, cell-in}
 use Rattle.rules.specs.Theory.BeginCall.{slots-length}
 use Rattle.rules.specs.Theory.ReadCall.{recs-count, noted-at}
 use Rattle.rules.specs.Theory.LookupCall.{Fine, found-fine, rows-below, all-rows-below}
 use Rattle.rules.specs.Theory.CommitCall.{commit-facts}
+use Rattle.rules.specs.Theory.AbortCall.{abort-entries-in}
+use Rattle.rules.specs.Theory.VacuumCall.{cells-of}
 use Rattle.rules.specs.Theory.VacuumCall.{row-chain, swept-rows, horizon-under}
 use Rattle.upstream.specs.Born.{On, Born, Lows, minOf, ofMin, Ready, Distinct, frame, on-row, row-on, on-unslot, on-unfree, on-listed, listed-on, give-gone, give-stays, give-rest, publish-all-born, head, next}
 
@@ -119,25 +120,6 @@ past-end (x ∷ l) (suc i) h = past-end l i (omega arith)
 few-slots : (z : Sizes) (ss : List (List ℕ)) → length (slotsOf z ss) ≤ z .slots
 unfolding slotsOf
 few-slots z ss = few (slotOf z) (z .slots) ss
-
-cells-of : (cs : List (List ℕ)) (l : List ℕ) → ((c : ℕ) → cnt c l ≢ 0 → HasCell cs c) → AllCells cs l
-cells-of cs [] f = tt
-cells-of cs (c ∷ l) f = (f c (λ z. cnt-head c c l z refl), cells-of cs l (λ d n. f d (λ z. n (cnt-tail d c l z))))
-
-relink-stays : (l : List ℕ) (f : ℕ → Version) (x : ℕ) → cnt x l ≡ 0 → relinkV l f x ≡ f x
-unfolding relinkV
-relink-stays [] f x z = refl
-relink-stays (c ∷ []) f x z = upd-other f c x (withNext (f c) 0) (cnt-head x c [] z)
-relink-stays (c ∷ d ∷ l) f x z = relink-stays (d ∷ l) (upd f c (withNext (f c) d)) x (cnt-tail x c (d ∷ l) z) ∙ upd-other f c x (withNext (f c) d) (cnt-head x c (d ∷ l) z)
-
--- the tests of an abort: bases and new cells are cells
-abort-cells : {z : Sizes} (m : Mem z) → sizeN m ≤ length (m .cells) → (ws : List Write) → Passed (each (abortTests m) ws) → BasesIn (m .cells) ws × AllCells (m .cells) (news ws)
-unfolding each
-abort-cells m sh [] p = (tt, tt)
-abort-cells m sh (w ∷ l) p =
-    let r = abort-cells m sh l (p .1 .1) in
-    let k : w .base ≤ sizeN m = ltb-false _ _ (p .0) in
-    ((omega arith, r .0), (cell-in (sizeN m) (w .new) (m .cells) sh (p .1 .0), r .1))
 
 module _ {z : Sizes} (R N : ℕ) (m : Mem z) (h : Hist) (gd : Good R N m h) (b : Born R (suc N) (viewOf m)) where
   abbrev st : View
@@ -309,7 +291,7 @@ module _ {z : Sizes} (R N : ℕ) (m : Mem z) (h : Hist) (gd : Good R N m h) (b :
         let o = owner m s id (q .0) in
         let op = view-open m s id o in
         let at = get-slots z (m .slots) s (o .slot) in
-        let f = commit-facts m (gd .shaped) (slotAt m s) ws (q .1) in
+        let f = commit-facts m m (gd .shaped .rows) (gd .shaped .cells) (slotAt m s) ws (q .1) in
         let en : Entries (vers st) R id ws = rw (at, slot-id m s id o) at ((iv .opens s op) .entries) in
         let vw : viewOf (withSlot (publishAll id ws m) s (emptied z)) ≡ putSlot (publishAllV id ws st) s emptySlot =
         view-close (publishAll id ws m) s (o .slot) ∙ ap (λ (x : View). putSlot x s emptySlot) (view-publish-all id ws m (f .1)) in
@@ -328,7 +310,7 @@ module _ {z : Sizes} (R N : ℕ) (m : Mem z) (h : Hist) (gd : Good R N m h) (b :
         let q = passed-split (slotTests m s id) (each (abortTests m) l) p in
         let o = owner m s id (q .0) in
         let at = get-slots z (m .slots) s (o .slot) in
-        let f = abort-cells m (gd .shaped .cells) l (q .1) in
+        let f = abort-entries-in m (m .cells) (gd .shaped .cells) l (q .1) in
         let loosed = withCells m (fold (unlockBase id) l (m .cells)) in
         let u = unlock-vers id l (m .cells) (f .0) in
         let st₁ = withVers st (unlockV id l (st .vers)) in
@@ -430,7 +412,7 @@ module _ {z : Sizes} (R N : ℕ) (m : Mem z) (h : Hist) (gd : Good R N m h) (b :
           bare = λ c nz lt none-here. byEq (cnt c dead) 0
               (λ y.
               byEq (cnt c alive) 0
-              (λ a. ap ofNext (give-stays dead st₁ c y ∙ relink-stays alive (st .vers) c a)
+              (λ a. ap ofNext (give-stays dead st₁ c y ∙ relink-off alive (st .vers) c a)
               ∙ b .bare c nz lt (λ o.
               let k = on-row R (suc N) st (gd .ghost) h iv o in
               none-here (stands (k .0) c (k .1) (byEq (k .0) row

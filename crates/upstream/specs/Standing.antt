@@ -41,7 +41,7 @@ use Rattle.rules.specs.Theory.Guard.{guardCase}
 use Rattle.rules.specs.Theory.Good.{Owner}
 use Rattle.rules.specs.Theory.Never.{open-slot}
 use Rattle.rules.specs.Theory.OnePlace.{times-is}
-use Rattle.rules.specs.Theory.Facts.{at-row}
+use Rattle.rules.specs.Theory.Facts.{at-row, has-all}
 use Rattle.rules.specs.Theory.VacuumCall.{row-chain}
 use Rattle.rules.specs.Theory.Steps.{Sound, histOf, step-sound, create-starts, commits-sizes}
 use Rattle.rules.specs.Theory.ReadLaw.{reachable-sound}
@@ -149,17 +149,6 @@ cell-is n c e = let a = and-true (nonzero c) (leb c n) e in (eqb-false c 0 (not-
 is-cell : (n c : ℕ) → c ≢ 0 → c ≤ n → isCell n c ≡ true
 is-cell n c nz le = rw (ne-eqb c 0 nz, le-leb c n le)
 
--- an id among those of a list
-below-top : (x k : ℕ) (ids : List ℕ) → All (λ y. y < k) ids → has x ids ≡ true → x < k
-unfolding has
-below-top x k [] a e = absurd (no-both _ e refl)
-below-top x k (y ∷ ids) a e = byEq x y (λ q. omega (arith, a .0)) (λ q. below-top x k ids (a .1) (rw (ne-eqb x y q) at e))
-
-at-least : (x k : ℕ) (ids : List ℕ) → All (λ y. k ≤ y) ids → has x ids ≡ true → k ≤ x
-unfolding has
-at-least x k [] a e = absurd (no-both _ e refl)
-at-least x k (y ∷ ids) a e = byEq x y (λ q. omega (arith, a .0)) (λ q. at-least x k ids (a .1) (rw (ne-eqb x y q) at e))
-
 -- ---- the theorems
 
 module _ {z : Sizes} (rm : Roomy z) (m : Mem z) (l : Log) (rc : Reachable m l) where
@@ -258,7 +247,7 @@ module _ {z : Sizes} (rm : Roomy z) (m : Mem z) (l : Log) (rc : Reachable m l) w
         let k = snapshot-is-in-order rm m l rc s op in
         let t = slotAt m s in
         let nz : t .low ≢ 0 = rw at-slot at (born .lows s .0 (rw (iv .known s) op)) in
-        (omega arith, at-least (t .id) (t .low) (t .active) (k .least) (k .self), below-top (t .id) (t .top) (t .active) (k .above) (k .self), k .least)
+        (omega arith, has-all (λ y. t .low ≤ y) (t .id) (t .active) (k .least) (k .self), has-all (λ y. y < t .top) (t .id) (t .active) (k .above) (k .self), k .least)
 
     pub open-snapshot-is-low-first : LowFirst (slotAt m s)
     open-snapshot-is-low-first = let k = open-snapshot-is-well-formed in record { top = omega (arith, k .1, k .2); active = k .3 }

@@ -33,6 +33,12 @@ ghost use Rattle.gate.specs.FineLaws.{StoreFine};
 ghost use Rattle.vacuum.specs.Sweeping.{Sweepable, gone, stays};
 ghost use Rattle.vacuum.specs.Rest.{vacuumRest};
 
+// A row whose head is 0 has no version.
+const NO_VERSION: Answer = Answer::Vacuumed {
+    count: 0,
+    live: ReadAnswer::None,
+};
+
 // A refusal, for the places that give one in a line.
 fn refused(number: u64, value: u64) -> Answer
     ensures { λ a. ⌜ a ≡ Refused number value ⌝ }
@@ -108,10 +114,7 @@ pub fn vacuum(
     let n = meta[CELLS];
     let head = Cell(rows[row as usize]);
     if head.0 == 0 {
-        return Answer::Vacuumed {
-            count: 0,
-            live: ReadAnswer::None,
-        };
+        return NO_VERSION;
     }
     if n < head.0 {
         return refused(DAMAGED, 0);

@@ -6,20 +6,18 @@ use mathlib.Core.Path.{_≡_, refl, ap, _∙_}
 use mathlib.Core.Logic.{_≢_}
 use native.Mathlib.Omega.{arith}
 use lib.ListN.{length, getD}
-use borrow.Author.Tests.{leb-false, ltb-false}
 use Rattle.kinds.specs.declared.Verdict.{Verdict}
-use Rattle.kinds.specs.declared.Verdict.the-variants.{Fine, Refused}
+use Rattle.kinds.specs.declared.Verdict.the-variants.{Fine}
 use Rattle.words.specs.Sizes.{Sizes, base, WRITES}
 use Rattle.words.specs.Slots.{Slot, Write, write, threes, slotOf}
 use Rattle.rules.specs.Memory.{Mem, mem, sizeR, sizeN}
-use Rattle.rules.specs.Outcome.{Test, each}
+use Rattle.rules.specs.Outcome.{each}
 use Rattle.rules.specs.Verdicts.{verdict, andThen, verdict-append}
 use Rattle.words.specs.WordLaws.{threes-step, threes-done}
 use Rattle.rules.specs.Commit.{recordTests, baseTests, newTests, commitTests}
 use Rattle.rules.specs.Theory.Bridge.{AllIn}
-use Rattle.rules.specs.Theory.Cases.{byBool}
-use Rattle.rules.specs.Theory.Good.{cell-in}
-use Rattle.rules.specs.Theory.Guard.{Passed, passed-split}
+use Rattle.rules.specs.Theory.CommitCall.{commit-facts}
+use Rattle.rules.specs.TestLaws.{fine-passed}
 use Rattle.validate.specs.Arenas.{lent}
 
 module _ {z : Sizes} (m : Mem z) (t : Slot) where
@@ -51,28 +49,7 @@ unfolding commitTests
 commit-whole a r c s t [] = refl
 commit-whole a r c s t (w ∷ l) = refl
 
--- a fine verdict: no test fails
-pub fine-passed : (l : List Test) → verdict l ≡ Fine → Passed l
-unfolding verdict
-fine-passed [] h = tt
-fine-passed (t ∷ l) h = byBool (t .fails)
-    (λ e. absurd (let g : Refused (t .number) (t .value) ≡ Fine = rw e at h in let z : _≡_ {A = ℕ} 0 1 = cc in omega arith))
-    (λ e. (e, fine-passed l (rw e at h)))
-
 -- k is any memory that is long enough for the store: the changes are called with two of its arenas only
 module _ {z y : Sizes} (m : Mem z) (k : Mem y) (r : sizeR m ≤ length (k .rows)) (n : sizeN m ≤ length (k .cells)) where
-  entries-in : (ws : List Write) → Passed (each (baseTests m) ws) → Passed (each (newTests m) ws) → AllIn k ws
-  unfolding each
-  entries-in [] p q = tt
-  entries-in (w ∷ l) p q =
-      let a : w .row < sizeR m = leb-false _ _ (p .0) in
-      let b : w .base ≤ sizeN m = ltb-false _ _ (p .1 .1 .0) in
-      (record { row-in = omega arith; base-in = omega arith; new-in = cell-in (sizeN m) (w .new) (k .cells) n (q .0) }, entries-in l (p .1 .1 .1 .1) (q .1))
-
   pub fine-writes : (t : Slot) (ws : List Write) → verdict (commitTests m t ws) ≡ Fine → AllIn k ws
-  unfolding commitTests
-  fine-writes t [] h = tt
-  fine-writes t (w ∷ l) h =
-      let p = passed-split (each (recordTests m t) (t .recs) ++ each (baseTests m) (w ∷ l)) (each (newTests m) (w ∷ l)) (fine-passed _ h) in
-      let q = passed-split (each (recordTests m t) (t .recs)) (each (baseTests m) (w ∷ l)) (p .0) in
-      entries-in (w ∷ l) (q .1) (p .1)
+  fine-writes t ws h = commit-facts m k r n t ws (fine-passed _ h) .1

@@ -1,12 +1,12 @@
 // The judge of a commit: every test that paper 01 has for it, in its order, and no change. Nothing is asked of the lent lengths: what is
 // not there reads as 0, as the rules read it.
+use arena::check_cell;
 use arena::version_at;
 use kinds::Cell;
 use kinds::Verdict;
 use kinds::Version;
 use words::CELL_WORDS;
 use words::CELLS;
-use words::DAMAGED;
 use words::ID;
 use words::MOST_READS;
 use words::MOST_WRITES;
@@ -63,19 +63,10 @@ fn check_record(
     ensures { λ r. ⌜ r ≡ verdict
         (recordTests (sized 0 n [] (now (cells .entry))) (slotOf base (now (slot .entry))) (rec row (cell .0) (xmin .0))) ⌝ }
 {
-    let c = cell.0;
-    if c == 0 {
-        return Verdict::Refused {
-            number: DAMAGED,
-            value: 0,
-        };
-    }
-    if n < c {
-        return Verdict::Refused {
-            number: DAMAGED,
-            value: 0,
-        };
-    }
+    let there = check_cell(n, cell);
+    let Verdict::Fine = there else {
+        return there;
+    };
     if is_conflict(slot, version_at(cells, cell), xmin) {
         return Verdict::Refused {
             number: READ_CONFLICT,
@@ -125,10 +116,7 @@ fn check_base(
 {
     let b = base.0;
     if row >= r {
-        return Verdict::Refused {
-            number: DAMAGED,
-            value: 0,
-        };
+        return Verdict::DAMAGED;
     }
     if arena::word_at(rows, row as usize) != b {
         return Verdict::Refused {
@@ -140,10 +128,7 @@ fn check_base(
         return Verdict::Fine;
     }
     if n < b {
-        return Verdict::Refused {
-            number: DAMAGED,
-            value: 0,
-        };
+        return Verdict::DAMAGED;
     }
     let ended = version_at(cells, base).xmax;
     if ended.0 != 0 {
@@ -181,25 +166,6 @@ pub fn check_bases(
     Verdict::Fine
 }
 
-// One write's new cell, in a store of n cells.
-fn check_new(n: u64, new: Cell) -> Verdict
-    ensures { λ r. ⌜ r ≡ verdict (newTests (sized 0 n [] []) (write 0 0 (new .0))) ⌝ }
-{
-    if new.0 == 0 {
-        return Verdict::Refused {
-            number: DAMAGED,
-            value: 0,
-        };
-    }
-    if n < new.0 {
-        return Verdict::Refused {
-            number: DAMAGED,
-            value: 0,
-        };
-    }
-    Verdict::Fine
-}
-
 // Every write's new cell, in order. The changes use it first, so its damage is told after every head and base.
 pub fn check_news(meta: &[u64], slot: &[u64; WIDTH]) -> Verdict
     ensures { λ r. ⌜ r ≡ verdict (each (newTests (lent (now (meta .entry)) [] [])) (slotOf base (now (slot .entry)) .writes)) ⌝ }
@@ -208,7 +174,7 @@ pub fn check_news(meta: &[u64], slot: &[u64; WIDTH]) -> Verdict
     let mut left = words::at_most(slot[WRITES], MOST_WRITES as u64);
     let mut a = WRITES + 1;
     while left > 0 {
-        let found = check_new(n, Cell(slot[a + 2]));
+        let found = check_cell(n, Cell(slot[a + 2]));
         let Verdict::Fine = found else {
             return found;
         };

@@ -19,20 +19,8 @@ abbrev μ-loop : tie.MeasureT-loop
 loop-holds : tie.Need-loop-holds Inv-loop μ-loop
 loop-holds c = (omega arith, refl)
 
-mul-if1 : tie.Need-mul-if1 Inv-loop μ-loop
-mul-if1 c = search needs
-
-shared-slice-read-if1 : tie.Need-shared-slice-read-if1 Inv-loop μ-loop
-shared-slice-read-if1 c = search needs
-
-mul-t8 : tie.Need-mul-t8 Inv-loop μ-loop
-mul-t8 c = search needs
-
-shared-slice-read-t10 : tie.Need-shared-slice-read-t10 Inv-loop μ-loop
-shared-slice-read-t10 c = search needs
-
 returns : tie.Need-returns Inv-loop μ-loop
-returns c = sym (tests-stop _ _ _ (drop-next _ _ (c .before .before .before .loop-test .taken)) (candidateTest (c .before .before .before .before .before .args .r)) _ _ _ refl (le-leb _ _ (c .before .if1 .taken))) ∙ c .before .before .before .before .loop .inv .1
+returns c = sym (tests-stop _ _ _ (drop-next _ _ (c .before .before .loop-test .taken)) (candidateTest (c .before .before .before .before .args .r)) _ _ _ refl (le-leb _ _ (c .if1 .taken))) ∙ c .before .before .before .loop .inv .1
 
 add-i : tie.Need-add-i Inv-loop μ-loop
 add-i c = omega arith
@@ -53,10 +41,8 @@ check-candidates-spec =
     Inv-loop
     μ-loop
     loop-holds
-    mul-if1
-    shared-slice-read-if1
-    mul-t8
-    shared-slice-read-t10
+    (λ c. search needs)
+    (λ c. search needs)
     returns
     add-i
     loop-less

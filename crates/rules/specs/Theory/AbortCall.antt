@@ -4,6 +4,7 @@ use mathlib.Core.Logic.{_≢_}
 use mathlib.Core.Path.{ap, _≡_, refl, _∙_, sym}
 use Prim.Native.Nat.{_≤_, ℕ, suc}
 use native.Mathlib.Omega.{arith}
+use lib.ListN.{length}
 use lib.Seq.{getD-set-same, getD-set-other}
 use borrow.Author.Tests.{ltb-false}
 use Rattle.kinds.specs.declared.Answer.{Answer}
@@ -17,7 +18,6 @@ use Rattle.rules.specs.Abort.{abortTests, news, unlockBase, giveBack, ab
 use Rattle.rules.specs.History.{ifDone}
 use Rattle.rules.specs.Reachable.{All}
 use Rattle.rules.specs.Theory.Cases.{byEq}
-use Rattle.rules.specs.Theory.Shape.{Shaped}
 use Rattle.rules.specs.Theory.View.{View, viewOf, slotsOf, emptySlot, get-slots}
 use Rattle.rules.specs.Theory.Effects.{putSlot, giveAllV, giveV, withVers, unlockV, slotV}
 use Rattle.rules.specs.Theory.Bridge.{BasesIn, AllCells, unlock-vers, view-close, view-give-all, all-cells}
@@ -31,13 +31,14 @@ use Rattle.rules.specs.Theory.Guard.{Passed, guardCase, passed-split}
 use Rattle.rules.specs.Theory.Same.{Same, same-unlock, same-then, same-give-all, shaped-close, slots-give-all}
 use Rattle.rules.specs.Theory.Good.{cell-in, Good, Owner, slot-id, histEnd, owner, view-open}
 
-abort-facts : {z : Sizes} (m : Mem z) → Shaped m → (ws : List Write) → Passed (each (abortTests m) ws) → BasesIn (m .cells) ws × AllCells (m .cells) (news ws)
+-- an abort's tests passed: bases and new cells are cells, of any arena that is long enough for the store
+pub abort-entries-in : {z : Sizes} (m : Mem z) (cs : List (List ℕ)) → sizeN m ≤ length cs → (ws : List Write) → Passed (each (abortTests m) ws) → BasesIn cs ws × AllCells cs (news ws)
 unfolding each
-abort-facts m sh [] p = (tt, tt)
-abort-facts m sh (w ∷ l) p =
-    let r = abort-facts m sh l (p .1 .1) in
+abort-entries-in m cs n [] p = (tt, tt)
+abort-entries-in m cs n (w ∷ l) p =
+    let r = abort-entries-in m cs n l (p .1 .1) in
     let b : w .base ≤ sizeN m = ltb-false _ _ (p .0) in
-    ((omega (arith, sh .cells), r .0), (cell-in (sizeN m) (w .new) (m .cells) (sh .cells) (p .1 .0), r .1))
+    ((omega arith, r .0), (cell-in (sizeN m) (w .new) cs n (p .1 .0), r .1))
 
 give-later : (l : List ℕ) (st : View) (s : ℕ) (t : Slot) → putSlot (giveAllV l st) s t ≡ giveAllV l (putSlot st s t)
 unfolding fold
@@ -87,7 +88,7 @@ module _ {z : Sizes} (R N : ℕ) (m : Mem z) (h : Hist) (gd : Good R N m h) (s i
       let sh = gd .shaped in
       let q = passed-split (slotTests m s id) (each (abortTests m) ws) p in
       let o = owner m s id (q .0) in
-      let f = abort-facts m sh ws (q .1) in
+      let f = abort-entries-in m (m .cells) (sh .cells) ws (q .1) in
       let e₀ : Same m loosed = record { meta = refl; rows = refl; cells = same-unlock id ws (m .cells); sizer = refl; sizen = refl } in
       let e = same-then m loosed (fold giveBack (news ws) loosed) e₀ (same-give-all (news ws) loosed) in
       let op = view-open m s id o in

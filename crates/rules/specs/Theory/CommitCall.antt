@@ -3,6 +3,7 @@ use mathlib.Core.List.{List, [], _∷_, _++_}
 use mathlib.Core.Path.{ap, _≡_, refl, _∙_, sym}
 use Prim.Native.Nat.{_<_, _≤_, ℕ, suc}
 use native.Mathlib.Omega.{arith}
+use lib.ListN.{length}
 use borrow.Author.Tests.{leb-false, ltb-false, eqb-true, not-false}
 use Rattle.kinds.specs.declared.Answer.{Answer}
 use Rattle.words.specs.Sizes.{Sizes}
@@ -12,7 +13,6 @@ use Rattle.rules.specs.Memory.{Mem, headAt, sizeR, sizeN, slotAt, withSl
 use Rattle.rules.specs.Outcome.{each, slotTests, Outcome, refuse}
 use Rattle.rules.specs.Commit.{baseTests, newTests, commitTests, recordTests, publishAll, commitOut}
 use Rattle.rules.specs.History.{ifDone}
-use Rattle.rules.specs.Theory.Shape.{Shaped}
 use Rattle.rules.specs.Theory.View.{View, viewOf, emptySlot, get-slots}
 use Rattle.rules.specs.Theory.Effects.{putSlot, publishAllV, publishV, slotV}
 use Rattle.rules.specs.Theory.Bridge.{AllIn, view-close, view-publish-all}
@@ -24,19 +24,20 @@ use Rattle.rules.specs.Theory.Guard.{Passed, passed-split, guardCase}
 use Rattle.rules.specs.Theory.Same.{same-publish-all, shaped-close, slots-publish-all}
 use Rattle.rules.specs.Theory.Good.{cell-in, Good, Owner, slot-id, histCommit, owner, view-open}
 
-module _ {z : Sizes} (m : Mem z) (sh : Shaped m) where
-  base-facts : (ws : List Write) → Passed (each (baseTests m) ws) → Passed (each (newTests m) ws) → Tested (headAt m) ws × AllIn m ws
+-- k is any memory that is long enough for the store
+module _ {z y : Sizes} (m : Mem z) (k : Mem y) (r : sizeR m ≤ length (k .rows)) (n : sizeN m ≤ length (k .cells)) where
+  base-facts : (ws : List Write) → Passed (each (baseTests m) ws) → Passed (each (newTests m) ws) → Tested (headAt m) ws × AllIn k ws
   unfolding each
   base-facts [] p q = (tt, tt)
   base-facts (w ∷ l) p q =
-      let r = base-facts l (p .1 .1 .1 .1) (q .1) in
+      let f = base-facts l (p .1 .1 .1 .1) (q .1) in
       let a : w .row < sizeR m = leb-false _ _ (p .0) in
       let b : w .base ≤ sizeN m = ltb-false _ _ (p .1 .1 .0) in (
-        (eqb-true _ _ (not-false _ (p .1 .0)), r .0),
-        (record { row-in = omega (arith, sh .rows); base-in = omega (arith, sh .cells); new-in = cell-in (sizeN m) (w .new) (m .cells) (sh .cells) (q .0) }, r .1),
+        (eqb-true _ _ (not-false _ (p .1 .0)), f .0),
+        (record { row-in = omega arith; base-in = omega arith; new-in = cell-in (sizeN m) (w .new) (k .cells) n (q .0) }, f .1),
       )
 
-  pub commit-facts : (t : Slot) (ws : List Write) → Passed (commitTests m t ws) → Tested (headAt m) ws × AllIn m ws
+  pub commit-facts : (t : Slot) (ws : List Write) → Passed (commitTests m t ws) → Tested (headAt m) ws × AllIn k ws
   unfolding commitTests
   commit-facts t [] p = (tt, tt)
   commit-facts t (w ∷ l) p =
@@ -71,7 +72,7 @@ module _ {z : Sizes} (R N : ℕ) (m : Mem z) (h : Hist) (gd : Good R N m h) (s i
       let q = passed-split (slotTests m s id) (commitTests m (slotAt m s) ws) p in
       let o = owner m s id (q .0) in
       let op = view-open m s id o in
-      let f = commit-facts m sh (slotAt m s) ws (q .1) in
+      let f = commit-facts m m (sh .rows) (sh .cells) (slotAt m s) ws (q .1) in
       let ts : Tested (st .heads) (slotV st s .writes) = rw (get-slots z (m .slots) s (o .slot)) (f .0) in
       let e = same-publish-all id ws m in
       let k = commit-inv R (suc N) st (gd .ghost) h s iv op ts in

@@ -59,16 +59,17 @@ unfolding greatest
 greatest-above [] k h = tt
 greatest-above (x ∷ l) k h = (omega arith, greatest-above l k (omega arith))
 
-has-below : (x k : ℕ) (l : List ℕ) → All (λ y. y < k) l → has x l ≡ true → x < k
+-- what holds of every member holds of one that is in the list
+pub has-all : (P : ℕ → Type 0) (x : ℕ) (l : List ℕ) → All P l → has x l ≡ true → P x
 unfolding has
-has-below x k [] a e = absurd (false≢true e)
-has-below x k (y ∷ l) a e = byEq x y (λ q. omega (arith, a .0)) (λ q. has-below x k l (a .1) (rw (ne-eqb x y q) at e))
+has-all P x [] a e = absurd (false≢true e)
+has-all P x (y ∷ l) a e = byEq x y (λ q. rw q (a .0)) (λ q. has-all P x l (a .1) (rw (ne-eqb x y q) at e))
 
 taken-order : (k : ℕ) (t : Slot) → Taken k t → InOrder t k
 taken-order k t a =
     let up = greatest-above (t .active) (t .top) (a .above) in
     let lo = least-has-le (t .top) (t .id) (t .active) (a .self) in
-    let hi = has-below (t .id) (t .top) (t .active) up (a .self) in
+    let hi = has-all (λ y. y < t .top) (t .id) (t .active) up (a .self) in
     record {
       self = a .self;
       among = subst (λ (x : ℕ). has x (t .active) ≡ true) (sym (a .lowest)) (least-among (t .top) (t .active) (λ e. omega arith));

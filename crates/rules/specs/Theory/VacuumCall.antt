@@ -71,7 +71,8 @@ give-spelled (c ∷ l) st r list off s =
     (spelled-frame (nexts st) (nexts (giveV c st)) c (st .heads r) list (part-off ofNext (st .vers) c emptyVersion)
     (byEq (cnt c list) 0 (λ e. e) (λ nz. absurd (cnt-head c c l (off c nz) refl))) s)
 
-cells-of : (cs : List (List ℕ)) (l : List ℕ) → ((c : ℕ) → cnt c l ≢ 0 → HasCell cs c) → AllCells cs l
+-- members that are cells, one by one
+pub cells-of : (cs : List (List ℕ)) (l : List ℕ) → ((c : ℕ) → cnt c l ≢ 0 → HasCell cs c) → AllCells cs l
 cells-of cs [] f = tt
 cells-of cs (c ∷ l) f = (f c (λ z. cnt-head c c l z refl), cells-of cs l (λ d n. f d (λ z. n (cnt-tail d c l z))))
 

@@ -71,7 +71,8 @@ relink-part F blind [] f = refl
 relink-part F blind (c ∷ []) f = fun-ext (part-same F f c (withNext (f c) 0) (blind (f c) 0))
 relink-part F blind (c ∷ d ∷ l) f = relink-part F blind (d ∷ l) (upd f c (withNext (f c) d)) ∙ fun-ext (part-same F f c (withNext (f c) d) (blind (f c) d))
 
-relink-off : (l : List ℕ) (f : ℕ → Version) (x : ℕ) → cnt x l ≡ 0 → relinkV l f x ≡ f x
+-- a cell that is not linked anew stays as it is
+pub relink-off : (l : List ℕ) (f : ℕ → Version) (x : ℕ) → cnt x l ≡ 0 → relinkV l f x ≡ f x
 unfolding relinkV
 relink-off [] f x z = refl
 relink-off (c ∷ []) f x z = upd-other f c x (withNext (f c) 0) (cnt-head x c [] z)

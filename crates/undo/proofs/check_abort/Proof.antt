@@ -24,7 +24,7 @@ abbrev μ-loop : tie.MeasureT-loop
 
 loop-holds : tie.Need-loop-holds Inv-loop μ-loop
 unfolding slotOf
-loop-holds c = (omega arith, rw (c .before .before .cell-count .ensures, c .at-most .ensures))
+loop-holds c = (omega arith, rw (c .before .before .word-at .ensures, c .at-most .ensures))
 
 returns : tie.Need-returns Inv-loop μ-loop
 returns c = sym (tests-stop _ _ _ _ _ _ _ _ (c .before .before .before .before .before .loop-test .taken) (c .before .before .check-entry .ensures) (c .enum-told2 .given .1)) ∙ c .before .before .before .before .before .before .loop .inv .1

@@ -27,10 +27,10 @@ unfolding slotOf
 loop-holds c = (omega arith, rw (c .before .before .word-at .ensures, c .at-most .ensures))
 
 returns : tie.Need-returns Inv-loop μ-loop
-returns c = sym (tests-stop _ _ _ _ _ _ _ _ (c .before .before .before .before .loop-test .taken) (c .before .before .check-new .ensures) (c .enum-told2 .given .1)) ∙ c .before .before .before .before .before .loop .inv .1
+returns c = sym (tests-stop _ _ _ _ _ _ _ _ (c .before .before .before .before .loop-test .taken) (c .before .before .check-cell .ensures) (c .enum-told2 .given .1)) ∙ c .before .before .before .before .before .loop .inv .1
 
 loop-again : tie.Need-loop-again Inv-loop μ-loop
-loop-again c = (omega arith, sym (tests-next _ _ _ _ _ _ (c .before .before .before .before .loop-test .taken) (c .before .before .check-new .ensures) (c .enum-told .given .1)) ∙ c .before .before .before .before .before .loop .inv .1)
+loop-again c = (omega arith, sym (tests-next _ _ _ _ _ _ (c .before .before .before .before .loop-test .taken) (c .before .before .check-cell .ensures) (c .enum-told .given .1)) ∙ c .before .before .before .before .before .loop .inv .1)
 
 returns-2 : tie.Need-returns-2 Inv-loop μ-loop
 returns-2 c = sym (tests-done _ _ _ _ _ (c .loop-test .left)) ∙ c .before .loop .inv .1

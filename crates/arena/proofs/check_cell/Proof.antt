@@ -1,8 +1,8 @@
--- Each way out is a new cell that is 0, past N, or there.
+-- Each way out is a number that is 0, past N, or a cell's.
 use Rattle.rules.specs.Verdicts.{verdict}
 use Rattle.rules.specs.TestLaws.{no-cell, past-cell, some-cell}
-use Rattle.validate.proofs.check_new.Statement.{statement}
-use Rattle.validate.proofs.check_new.Tie as tie
+use Rattle.arena.proofs.check_cell.Statement.{statement}
+use Rattle.arena.proofs.check_cell.Tie as tie
 
 returns : tie.Need-returns
 unfolding verdict
@@ -16,5 +16,5 @@ returns-3 : tie.Need-returns-3
 unfolding verdict
 returns-3 c = rw (some-cell _ _ (c .before .before .if1 .left) (c .if2 .left))
 
-pub check-new-spec : {M : Type 1} → statement M
-check-new-spec = tie.close (tie.spec returns returns-2 returns-3)
+pub check-cell-spec : {M : Type 1} → statement M
+check-cell-spec = tie.close (tie.spec returns returns-2 returns-3)
