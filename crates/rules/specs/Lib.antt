@@ -56,6 +56,7 @@ pub mod LookupRefusedWhen
 pub mod LookupRows
 pub mod Published
 pub mod CommitPublishes
+pub mod CommitStores
 pub mod LookupLists
 pub mod BufferForAll
 pub mod BeginTakes
