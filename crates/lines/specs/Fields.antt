@@ -1,5 +1,5 @@
 -- A record read from a place on: what the code's steps find, for what the fields say.
-use Prim.Native.Nat.{ℕ, suc, _+_, _-_, _<_, _≤_}
+use Prim.Native.Nat.{ℕ, zero, suc, _+_, _-_, _<_, _≤_}
 use mathlib.Core.Bool.{Bool, true, false}
 use mathlib.Core.List.{List, [], _∷_, _++_, append-nil}
 use mathlib.Core.Option.{Option, none, some}
@@ -16,9 +16,8 @@ use Rattle.digits.specs.declared.Number.{Number}
 use Rattle.digits.specs.Numbers.{numberOf, leads, told}
 use Rattle.lines.specs.declared.Line.{Line}
 use Rattle.lines.specs.declared.Field.{Field}
-use Rattle.lines.specs.declared.Pair.{Pair}
-use Rattle.lines.specs.declared.Triple.{Triple}
-use Rattle.lines.specs.Lines.{onto, joined, split, number, onNumber, done, keyed, two, threeThen, three}
+use Rattle.lines.specs.declared.Numbers.{Numbers}
+use Rattle.lines.specs.Lines.{onto, joined, split, number, onNumber, done, keyed}
 
 -- the fields after a place: none at the end, else those past the comma there
 unfoldable pub after : List ℕ → List (List ℕ)
@@ -35,47 +34,40 @@ pub record Cut (s : List ℕ) (from r : ℕ) : Type 0 where
   pub high : r ≤ length s
   pub fields : split (drop from s) ≡ take (r - from) (drop from s) ∷ rest s r
 
+-- what a field that the code found goes on to
 abbrev pub fieldOf : (ℕ → List (List ℕ) → Line) → List ℕ → Field → Line
 fieldOf k s Field.Nothing = Line.Other
 fieldOf k s (Field.Is v e) = k v (rest s e)
 
+-- the place after it
 abbrev pub endOf : Field → ℕ
 endOf Field.Nothing = 0
 endOf (Field.Is v e) = e
 
+-- r is the field after the comma at a place, read as a number
 pub record Stepped (s : List ℕ) (at : ℕ) (r : Field) : Type 0 where
   pub step : (k : ℕ → List (List ℕ) → Line) → number k (rest s at) ≡ fieldOf k s r
   pub within : endOf r ≤ length s
 
-abbrev pub pairOf : (ℕ → ℕ → Line) → Pair → Line
-pairOf k Pair.Nothing = Line.Other
-pairOf k (Pair.Are a b) = k a b
+-- n fields more are numbers; the last three of all go on
+abbrev pub numbered : ℕ → (ℕ → ℕ → ℕ → List (List ℕ) → Line) → ℕ → ℕ → ℕ → List (List ℕ) → Line
+numbered zero k a b c = k a b c
+numbered (suc n) k a b c = number (λ v. numbered n k b c v)
 
-pub record Paired (s : List ℕ) (at : ℕ) (r : Pair) : Type 0 where
-  pub both : (k : ℕ → ℕ → Line) → two k (rest s at) ≡ pairOf k r
+-- what numbers that the code found go on to
+abbrev pub numbersEnd : (ℕ → ℕ → ℕ → List (List ℕ) → Line) → List ℕ → Numbers → Line
+numbersEnd k s Numbers.Nothing = Line.Other
+numbersEnd k s (Numbers.Are a b c e) = k a b c (rest s e)
 
-abbrev pub tripleOf : (ℕ → ℕ → ℕ → List (List ℕ) → Line) → List ℕ → Triple → Line
-tripleOf k s Triple.Nothing = Line.Other
-tripleOf k s (Triple.Are a b c e) = k a b c (rest s e)
+-- the place after them
+abbrev pub placeOf : Numbers → ℕ
+placeOf Numbers.Nothing = 0
+placeOf (Numbers.Are a b c e) = e
 
-abbrev pub tripleEnd : Triple → ℕ
-tripleEnd Triple.Nothing = 0
-tripleEnd (Triple.Are a b c e) = e
-
-pub record Tripled (s : List ℕ) (at : ℕ) (r : Triple) : Type 0 where
-  pub all : (k : ℕ → ℕ → ℕ → List (List ℕ) → Line) → threeThen k (rest s at) ≡ tripleOf k s r
-  pub within : tripleEnd r ≤ length s
-
-abbrev pub threeOf : (ℕ → ℕ → ℕ → Line) → Triple → Line
-threeOf k Triple.Nothing = Line.Other
-threeOf k (Triple.Are a b c e) = k a b c
-
-pub record Ended (s : List ℕ) (at : ℕ) (r : Triple) : Type 0 where
-  pub all : (k : ℕ → ℕ → ℕ → Line) → three k (rest s at) ≡ threeOf k r
-
--- a write, from the end of its word
-abbrev pub writeAt : List ℕ → ℕ → Line
-writeAt s at = threeThen keyed (rest s at)
+-- r is the n fields from the comma at a place on, read as numbers
+pub record Counted (s : List ℕ) (at n : ℕ) (r : Numbers) : Type 0 where
+  pub all : (k : ℕ → ℕ → ℕ → List (List ℕ) → Line) → numbered n k 0 0 0 (rest s at) ≡ numbersEnd k s r
+  pub within : placeOf r ≤ length s
 
 -- ---- a record cut at its first comma
 
@@ -140,7 +132,7 @@ no-number none e = refl
 no-number (some n) e = absurd (let z : _≡_ {A = ℕ} 0 1 = cc in omega arith)
 
 module _ (s : List ℕ) (at : ℕ) where
-  rest-none : length s ≤ at → rest s at ≡ []
+  pub rest-none : length s ≤ at → rest s at ≡ []
   unfolding after
   rest-none h = rw (drop-of-length-le s h)
 
@@ -180,9 +172,9 @@ module _ (s : List ℕ) (at : ℕ) where
   pub step-end : (r : Field) (v i : ℕ) → Stepped s at r → r ≡ Field.Is v i → i ≤ length s
   step-end r v i t e = omega (arith, ap endOf e, t .within)
 
-  pub done-end : (l : Line) → at ≡ length s → done l (rest s at) ≡ l
+  pub done-end : (l : Line) → at ≡ length s → l ≡ done l (rest s at)
   unfolding done
-  done-end l e = ap (done l) (rest-none (omega arith))
+  done-end l e = sym (ap (done l) (rest-none (omega arith)))
 
   -- fields are never none
   done-split : (x : Line) (l : List ℕ) → done x (split l) ≡ Line.Other
@@ -195,82 +187,35 @@ module _ (s : List ℕ) (at : ℕ) where
       by false [] = refl
       by false (f ∷ fs) = refl
 
-  pub done-more : (l : Line) → at < length s → done l (rest s at) ≡ Line.Other
-  done-more l h = ap (done l) (rest-some h) ∙ done-split l (drop (at + 1) s)
+  pub done-more : (l : Line) → at < length s → Line.Other ≡ done l (rest s at)
+  done-more l h = sym (ap (done l) (rest-some h) ∙ done-split l (drop (at + 1) s))
 
--- ---- two fields, and three
+-- ---- some fields
 
-module _ (s : List ℕ) (at : ℕ) (r : Field) (t : Stepped s at r) where
-  pub pair-first : r ≡ Field.Nothing → Paired s at Pair.Nothing
-  pair-first e = record { both = λ k. step-none s at r t e (λ a. number (λ b. done (k a b))) }
+-- what the loop keeps: the numbers left, read on from the place e and after the last three, are all
+pub record Going (s : List ℕ) (at n left a b c e : ℕ) : Type 0 where
+  pub same : (k : ℕ → ℕ → ℕ → List (List ℕ) → Line) → numbered n k 0 0 0 (rest s at) ≡ numbered left k a b c (rest s e)
 
-  pub triple-first : r ≡ Field.Nothing → Tripled s at Triple.Nothing
-  triple-first e = record { all = λ k. step-none s at r t e (λ a. number (λ b. number (λ c. k a b c))); within = omega arith }
+module _ (s : List ℕ) (at n : ℕ) where
+  pub going-none : Going s at n n 0 0 0 at
+  going-none = record { same = λ k. refl }
 
-  module _ (a i : ℕ) (e : r ≡ Field.Is a i) (q : Field) (u : Stepped s i q) where
-    pub pair-second : q ≡ Field.Nothing → Paired s at Pair.Nothing
-    pair-second f =
-        record { both = λ k. step-is s at r a i t e (λ a. number (λ b. done (k a b))) ∙ step-none s i q u f (λ b. done (k a b)) }
+  module _ (left a b c e : ℕ) (g : Going s at n left a b c e) where
+    pub going-end : left ≡ 0 → e ≤ length s → Counted s at n (Numbers.Are a b c e)
+    going-end z h = record { all = λ k. g .same k ∙ ap (λ (m : ℕ). numbered m k a b c (rest s e)) z; within = h }
 
-    pair-ends : (b j : ℕ) → q ≡ Field.Is b j → (k : ℕ → ℕ → Line) → two k (rest s at) ≡ done (k a b) (rest s j)
-    pair-ends b j f k = step-is s at r a i t e (λ a. number (λ b. done (k a b))) ∙ step-is s i q b j u f (λ b. done (k a b))
+    module _ (m : ℕ) (z : left ≡ suc m) (r : Field) (t : Stepped s e r) where
+      going-on : (k : ℕ → ℕ → ℕ → List (List ℕ) → Line) → numbered n k 0 0 0 (rest s at) ≡ number (λ v. numbered m k b c v) (rest s e)
+      going-on k = g .same k ∙ ap (λ (m : ℕ). numbered m k a b c (rest s e)) z
 
-    pub pair-is : (b j : ℕ) → q ≡ Field.Is b j → j ≡ length s → Paired s at (Pair.Are a b)
-    pair-is b j f z = record { both = λ k. pair-ends b j f k ∙ done-end s j (k a b) z }
+      pub going-bad : r ≡ Field.Nothing → Counted s at n Numbers.Nothing
+      going-bad q = record { all = λ k. going-on k ∙ step-none s e r t q (λ v. numbered m k b c v); within = omega arith }
 
-    pub pair-more : (b j : ℕ) → q ≡ Field.Is b j → j ≢ length s → Paired s at Pair.Nothing
-    pair-more b j f z =
-        let h : j ≤ length s = step-end s i q b j u f in
-        let g : j < length s = omega arith in
-        record { both = λ k. pair-ends b j f k ∙ done-more s j (k a b) g }
+      pub going-more : (v i : ℕ) → r ≡ Field.Is v i → Going s at n m b c v i
+      going-more v i q = record { same = λ k. going-on k ∙ step-is s e r v i t q (λ v. numbered m k b c v) }
 
-    pub triple-second : q ≡ Field.Nothing → Tripled s at Triple.Nothing
-    triple-second f =
-        record {
-          all = λ k. step-is s at r a i t e (λ a. number (λ b. number (λ c. k a b c))) ∙ step-none s i q u f (λ b. number (λ c. k a b c));
-          within = omega arith;
-        }
-
-    module _ (b j : ℕ) (f : q ≡ Field.Is b j) (p : Field) (v : Stepped s j p) where
-      pub triple-third : p ≡ Field.Nothing → Tripled s at Triple.Nothing
-      triple-third g =
-          record {
-            all = λ k. step-is s at r a i t e (λ a. number (λ b. number (λ c. k a b c))) ∙ step-is s i q b j u f (λ b. number (λ c. k a b c)) ∙ step-none s j p v g (λ c. k a b c);
-            within = omega arith;
-          }
-
-      pub triple-is : (c l : ℕ) → p ≡ Field.Is c l → Tripled s at (Triple.Are a b c l)
-      triple-is c l g =
-          record {
-            all = λ k. step-is s at r a i t e (λ a. number (λ b. number (λ c. k a b c))) ∙ step-is s i q b j u f (λ b. number (λ c. k a b c)) ∙ step-is s j p c l v g (λ c. k a b c);
-            within = step-end s j p c l v g;
-          }
-
-below : (m n : ℕ) → m ≤ n → m ≢ n → m < n
-below m n h z = omega arith
-
-module _ (s : List ℕ) (at : ℕ) (r : Triple) (t : Tripled s at r) where
-  pub three-none : r ≡ Triple.Nothing → Ended s at Triple.Nothing
-  three-none e = record { all = λ k. t .all (λ a b c. done (k a b c)) ∙ ap (tripleOf (λ a b c. done (k a b c)) s) e }
-
-  pub write-none : r ≡ Triple.Nothing → writeAt s at ≡ Line.Other
-  write-none e = t .all keyed ∙ ap (tripleOf keyed s) e
-
-  module _ (x y z i : ℕ) (e : r ≡ Triple.Are x y z i) where
-    pub triple-end : i ≤ length s
-    triple-end = omega (arith, ap tripleEnd e, t .within)
-
-    three-then : (k : ℕ → ℕ → ℕ → Line) → three k (rest s at) ≡ done (k x y z) (rest s i)
-    three-then k = t .all (λ a b c. done (k a b c)) ∙ ap (tripleOf (λ a b c. done (k a b c)) s) e
-
-    pub three-is : i ≡ length s → Ended s at (Triple.Are x y z i)
-    three-is h = record { all = λ k. three-then k ∙ done-end s i (k x y z) h }
-
-    pub three-more : i ≢ length s → Ended s at Triple.Nothing
-    three-more n = record { all = λ k. three-then k ∙ done-more s i (k x y z) (below i (length s) triple-end n) }
-
-    pub write-then : writeAt s at ≡ keyed x y z (rest s i)
-    write-then = t .all keyed ∙ ap (tripleOf keyed s) e
+pub counted-more : (s : List ℕ) (at n : ℕ) (r : Numbers) (a b c e : ℕ) → Counted s at n r → r ≡ Numbers.Are a b c e → e ≢ length s → e < length s
+counted-more s at n r a b c e t q z = omega (arith, ap placeOf q, t .within)
 
 -- ---- the key of a write
 
@@ -296,28 +241,27 @@ module _ (x y z : ℕ) where
       by false = key-onto b (split l)
 
   module _ (s : List ℕ) (at : ℕ) where
-    pub key-none : length s ≤ at → keyed x y z (rest s at) ≡ Line.Other
-    unfolding keyed
-    key-none h = ap (keyed x y z) (rest-none s at h)
-
-    pub key-empty : at + 1 ≡ length s → keyed x y z (rest s at) ≡ Line.Delete x y z
+    pub key-empty : at + 1 ≡ length s → Line.Delete x y z ≡ keyed x y z (rest s at)
     unfolding keyed split done
     key-empty e =
         let h : length s ≤ at + 1 = omega arith in
-        ap (keyed x y z) (rest-some s at (omega arith) ∙ ap split (drop-of-length-le s h))
+        sym (ap (keyed x y z) (rest-some s at (omega arith) ∙ ap split (drop-of-length-le s h)))
 
-    pub key-is : at < length s → at + 1 ≢ length s → keyed x y z (rest s at) ≡ number aKey (rest s at)
+    key-is : at < length s → at + 1 ≢ length s → keyed x y z (rest s at) ≡ number aKey (rest s at)
     key-is h n =
         let d : drop (at + 1) s ≡ getD s (at + 1) 0 ∷ drop (suc (at + 1)) s = drop-cons s (at + 1) 0 (omega arith) in
         rw (rest-some s at h, d) (key-split (getD s (at + 1) 0) (drop (suc (at + 1)) s))
 
     module _ (h : at < length s) (n : at + 1 ≢ length s) (q : Field) (t : Stepped s at q) where
-      pub key-bad : q ≡ Field.Nothing → keyed x y z (rest s at) ≡ Line.Other
-      key-bad e = key-is h n ∙ step-none s at q t e aKey
+      pub key-bad : q ≡ Field.Nothing → Line.Other ≡ keyed x y z (rest s at)
+      key-bad e = sym (key-is h n ∙ step-none s at q t e aKey)
 
-      pub key-last : (v j : ℕ) → q ≡ Field.Is v j → j ≡ length s → keyed x y z (rest s at) ≡ Line.Write x y z v
-      key-last v j e g = key-is h n ∙ step-is s at q v j t e aKey ∙ done-end s j (Line.Write x y z v) g
+      module _ (v j : ℕ) (e : q ≡ Field.Is v j) where
+        key-then : keyed x y z (rest s at) ≡ done (Line.Write x y z v) (rest s j)
+        key-then = key-is h n ∙ step-is s at q v j t e aKey
 
-      pub key-more : (v j : ℕ) → q ≡ Field.Is v j → j ≢ length s → keyed x y z (rest s at) ≡ Line.Other
-      key-more v j e g =
-          key-is h n ∙ step-is s at q v j t e aKey ∙ done-more s j (Line.Write x y z v) (below j (length s) (step-end s at q v j t e) g)
+        pub key-last : j ≡ length s → Line.Write x y z v ≡ keyed x y z (rest s at)
+        key-last g = done-end s j (Line.Write x y z v) g ∙ sym key-then
+
+        pub key-more : j ≢ length s → Line.Other ≡ keyed x y z (rest s at)
+        key-more g = let k : j ≤ length s = step-end s at q v j t e in done-more s j (Line.Write x y z v) (omega arith) ∙ sym key-then

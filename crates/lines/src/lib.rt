@@ -1,12 +1,13 @@
 // One record of the replay program, a line without its end, read as a call. specs/Lines.antt says what a record means.
 use digits::Number;
 ghost use mathlib.Core.Path.{_≡_};
-ghost use Prim.Native.Nat.{_≤_};
+ghost use mathlib.Core.List.{[]};
+ghost use Prim.Native.Nat.{_<_, _≤_};
 ghost use lib.ListN.{length};
-ghost use Rattle.lines.specs.Lines.{meaning, wordOf, call};
+ghost use Rattle.lines.specs.Lines.{meaning, wordOf};
 ghost use Rattle.lines.specs.Lines.{same as Lines·same};
-ghost use Rattle.lines.specs.Fields.{Cut, Stepped, Paired, Tripled, Ended};
-ghost use Rattle.lines.specs.Fields.{writeAt, rest};
+ghost use Rattle.lines.specs.Fields.{rest, Cut, Stepped, Counted};
+ghost use Rattle.lines.specs.Calls.{numbersOf, ending};
 
 // A call, with its numbers as the record gives them.
 pub enum Line {
@@ -70,14 +71,8 @@ pub enum Field {
     Is { value: u64, end: usize },
 }
 
-// Two number fields and nothing after them.
-pub enum Pair {
-    Nothing,
-    Are { a: u64, b: u64 },
-}
-
-// Three number fields, and the place after them.
-pub enum Triple {
+// Number fields, one after another, and the place after them. Fewer than three stand last.
+pub enum Numbers {
     Nothing,
     Are { a: u64, b: u64, c: u64, end: usize },
 }
@@ -132,75 +127,52 @@ fn number_at(s: &[u8], at: usize) -> Field
     }
 }
 
-fn pair_at(s: &[u8], at: usize) -> Pair
+// A number of fields read as numbers, from the comma at a place on.
+fn numbers_at(s: &[u8], at: usize, n: usize) -> Numbers
     requires { ⌜ at ≤ length (now s) ⌝ }
-    ensures { λ r. ⌜ Paired (now (s .entry)) at r ⌝ }
+    ensures { λ r. ⌜ Counted (now (s .entry)) at n r ⌝ }
 {
-    match number_at(s, at) {
-        Field::Nothing => Pair::Nothing,
-        Field::Is { value: a, end: e } => match number_at(s, e) {
-            Field::Nothing => Pair::Nothing,
-            Field::Is { value: b, end: f } => {
-                if f == s.len() {
-                    return Pair::Are { a, b };
-                }
-                Pair::Nothing
+    let mut a = 0;
+    let mut b = 0;
+    let mut c = 0;
+    let mut end = at;
+    let mut left = n;
+    while left > 0 {
+        match number_at(s, end) {
+            Field::Nothing => return Numbers::Nothing,
+            Field::Is { value, end: next } => {
+                a = b;
+                b = c;
+                c = value;
+                end = next;
             }
-        },
+        }
+        left -= 1;
     }
+    Numbers::Are { a, b, c, end }
 }
 
-fn triple_at(s: &[u8], at: usize) -> Triple
-    requires { ⌜ at ≤ length (now s) ⌝ }
-    ensures { λ r. ⌜ Tripled (now (s .entry)) at r ⌝ }
+// The field after a call's numbers: a write's key, or nothing after its comma. No other call has one.
+fn key_at(s: &[u8], at: usize, w: Word, slot: u64, id: u64, row: u64) -> Line
+    requires { ⌜ at < length (now s) ⌝ }
+    ensures { λ r. ⌜ r ≡ ending w slot id row (rest (now (s .entry)) at) ⌝ }
 {
-    match number_at(s, at) {
-        Field::Nothing => Triple::Nothing,
-        Field::Is { value: a, end: e } => match number_at(s, e) {
-            Field::Nothing => Triple::Nothing,
-            Field::Is { value: b, end: f } => match number_at(s, f) {
-                Field::Nothing => Triple::Nothing,
-                Field::Is { value: c, end } => Triple::Are { a, b, c, end },
-            },
-        },
+    let Word::Write = w else {
+        return Line::Other;
+    };
+    if at + 1 == s.len() {
+        return Line::Delete { slot, id, row };
     }
-}
-
-// A write from the end of its word on: three numbers, then a key or nothing after the last comma.
-fn write_at(s: &[u8], at: usize) -> Line
-    requires { ⌜ at ≤ length (now s) ⌝ }
-    ensures { λ r. ⌜ r ≡ writeAt (now (s .entry)) at ⌝ }
-{
-    match triple_at(s, at) {
-        Triple::Nothing => Line::Other,
-        Triple::Are { a, b, c, end } => {
-            if end >= s.len() {
-                return Line::Other;
+    match number_at(s, at) {
+        Field::Nothing => Line::Other,
+        Field::Is {
+            value: key,
+            end: last,
+        } => {
+            if last == s.len() {
+                return Line::Write { slot, id, row, key };
             }
-            if end + 1 == s.len() {
-                return Line::Delete {
-                    slot: a,
-                    id: b,
-                    row: c,
-                };
-            }
-            match number_at(s, end) {
-                Field::Nothing => Line::Other,
-                Field::Is {
-                    value: key,
-                    end: last,
-                } => {
-                    if last == s.len() {
-                        return Line::Write {
-                            slot: a,
-                            id: b,
-                            row: c,
-                            key,
-                        };
-                    }
-                    Line::Other
-                }
-            }
+            Line::Other
         }
     }
 }
@@ -236,49 +208,45 @@ fn word_of(s: &[u8]) -> Word
     Word::Other
 }
 
-// Three numbers and nothing after them.
-fn three_at(s: &[u8], at: usize) -> Triple
-    requires { ⌜ at ≤ length (now s) ⌝ }
-    ensures { λ r. ⌜ Ended (now (s .entry)) at r ⌝ }
+// How many numbers follow a word; a write's key comes after them.
+fn numbers_of(w: Word) -> usize
+    ensures { λ r. ⌜ r ≡ numbersOf w ⌝ }
 {
-    match triple_at(s, at) {
-        Triple::Nothing => Triple::Nothing,
-        Triple::Are { a, b, c, end } => {
-            if end == s.len() {
-                return Triple::Are { a, b, c, end };
-            }
-            Triple::Nothing
-        }
+    match w {
+        Word::Store => 2,
+        Word::Begin => 0,
+        Word::Read => 3,
+        Word::Write => 3,
+        Word::Commit => 2,
+        Word::Abort => 2,
+        Word::Vacuum => 2,
+        Word::Find => 3,
+        Word::Other => 0,
     }
 }
 
-// A read from the end of its word on.
-fn read_at(s: &[u8], at: usize) -> Line
-    requires { ⌜ at ≤ length (now s) ⌝ }
-    ensures { λ r. ⌜ r ≡ call Word.Read (rest (now (s .entry)) at) ⌝ }
+// The call of a word and its numbers, where no field follows: a write lacks its key.
+fn made(w: Word, a: u64, b: u64, c: u64) -> Line
+    ensures { λ r. ⌜ r ≡ ending w a b c [] ⌝ }
 {
-    match three_at(s, at) {
-        Triple::Are { a, b, c, end: _ } => Line::Read {
+    match w {
+        Word::Store => Line::Store { n: b, r: c },
+        Word::Begin => Line::Begin,
+        Word::Read => Line::Read {
             slot: a,
             id: b,
             row: c,
         },
-        Triple::Nothing => Line::Other,
-    }
-}
-
-// A find likewise.
-fn find_at(s: &[u8], at: usize) -> Line
-    requires { ⌜ at ≤ length (now s) ⌝ }
-    ensures { λ r. ⌜ r ≡ call Word.Find (rest (now (s .entry)) at) ⌝ }
-{
-    match three_at(s, at) {
-        Triple::Are { a, b, c, end: _ } => Line::Find {
+        Word::Write => Line::Other,
+        Word::Commit => Line::Commit { slot: b, id: c },
+        Word::Abort => Line::Abort { slot: b, id: c },
+        Word::Vacuum => Line::Vacuum { row: b, request: c },
+        Word::Find => Line::Find {
             slot: a,
             id: b,
             key: c,
         },
-        Triple::Nothing => Line::Other,
+        Word::Other => Line::Other,
     }
 }
 
@@ -287,32 +255,14 @@ pub fn parse_line(s: &[u8]) -> Line
     ensures { λ r. ⌜ r ≡ meaning (now (s .entry)) ⌝ }
 {
     let e = comma(s, 0);
-    match word_of(&s[..e]) {
-        Word::Store => match pair_at(s, e) {
-            Pair::Are { a, b } => Line::Store { n: a, r: b },
-            Pair::Nothing => Line::Other,
-        },
-        Word::Begin => {
-            if e == s.len() {
-                return Line::Begin;
+    let w = word_of(&s[..e]);
+    match numbers_at(s, e, numbers_of(w)) {
+        Numbers::Nothing => Line::Other,
+        Numbers::Are { a, b, c, end } => {
+            if end == s.len() {
+                return made(w, a, b, c);
             }
-            Line::Other
+            key_at(s, end, w, a, b, c)
         }
-        Word::Read => read_at(s, e),
-        Word::Write => write_at(s, e),
-        Word::Commit => match pair_at(s, e) {
-            Pair::Are { a, b } => Line::Commit { slot: a, id: b },
-            Pair::Nothing => Line::Other,
-        },
-        Word::Abort => match pair_at(s, e) {
-            Pair::Are { a, b } => Line::Abort { slot: a, id: b },
-            Pair::Nothing => Line::Other,
-        },
-        Word::Vacuum => match pair_at(s, e) {
-            Pair::Are { a, b } => Line::Vacuum { row: a, request: b },
-            Pair::Nothing => Line::Other,
-        },
-        Word::Find => find_at(s, e),
-        Word::Other => Line::Other,
     }
 }
