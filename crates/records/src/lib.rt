@@ -65,16 +65,14 @@ fn least_xmin(slots: &[Slot], ceiling: u64) -> u64
 }
 
 // The retention horizon: least of the request, the clock and the snapshot xmin of all occupied slots.
-#[no_mangle]
-pub extern "C" fn retention_horizon(slots: &[Slot], clock: u64, request: u64) -> u64
+pub fn retention_horizon(slots: &[Slot], clock: u64, request: u64) -> u64
     ensures { λ r. ⌜ r ≡ horizonOf (now (slots .entry)) clock request ⌝ }
 {
     least_xmin(slots, ceiling(clock, request))
 }
 
 // The least active id, or the clock where no id is below it.
-#[no_mangle]
-pub extern "C" fn least_active(slots: &[Slot], clock: u64) -> u64
+pub fn least_active(slots: &[Slot], clock: u64) -> u64
     ensures { λ r. ⌜ r ≡ leastActive (now (slots .entry)) clock ⌝ }
 {
     let mut least = clock;
