@@ -69,13 +69,14 @@ pub fn check_head(
 pub fn check_room(meta: &[u64], slot: &[u64; WIDTH]) -> Verdict
     ensures { λ r. ⌜ r ≡ verdict (roomTests base (now (meta .entry)) (now (slot .entry))) ⌝ }
 {
-    if slot[WRITES] >= MOST_WRITES as u64 {
+    let entries = slot[WRITES];
+    let free = arena::word_at(meta, FREE);
+    if entries >= MOST_WRITES as u64 {
         return Verdict::Refused {
             number: WRITE_SET_FULL,
             value: 0,
         };
     }
-    let free = arena::word_at(meta, FREE);
     if free == 0 {
         return Verdict::Refused {
             number: NO_ROOM,

@@ -7,38 +7,38 @@ use borrow.Author.Needs.{needs}
 use Rattle.writes.proofs.check_room.Statement.{statement}
 use Rattle.writes.proofs.check_room.Tie as tie
 
-element-copy-out-if1 : tie.Need-element-copy-out-if1
-element-copy-out-if1 c = search needs
-
-returns : tie.Need-returns
-unfolding verdict
-returns c = rw (le-leb (base .writes) (getD (c .before .before .before .args .slot .now) (WRITES base) 0) (c .if1 .taken))
+element-copy-out-entries : tie.Need-element-copy-out-entries
+element-copy-out-entries c = search needs
 
 word-at-requires : tie.Need-word-at-requires
 word-at-requires c κs = search needs
 
+returns : tie.Need-returns
+unfolding verdict
+returns c = rw (le-leb (base .writes) (getD (c .before .before .before .before .args .slot .now) (WRITES base) 0) (omega arith))
+
 returns-2 : tie.Need-returns-2
 unfolding verdict
-returns-2 c = rw (lt-leb (base .writes) (getD (c .before .before .before .before .before .args .slot .now) (WRITES base) 0) (c .before .before .if1 .left), eq-eqb (getD (c .before .before .before .before .before .args .meta .now) FREE 0) 0 (omega (arith, c .before .word-at .ensures, c .if2 .taken)))
+returns-2 c = rw (lt-leb (base .writes) (getD (c .before .before .before .before .before .args .slot .now) (WRITES base) 0) (omega arith), eq-eqb (getD (c .before .before .before .before .before .args .meta .now) FREE 0) 0 (omega arith))
 
 word-at-requires-2 : tie.Need-word-at-requires-2
 word-at-requires-2 c κs = search needs
 
 returns-3 : tie.Need-returns-3
 unfolding verdict
-returns-3 c = rw (lt-leb (base .writes) (getD (c .before .before .before .before .before .before .before .args .slot .now) (WRITES base) 0) (c .before .before .before .before .if1 .left), ne-eqb (getD (c .before .before .before .before .before .before .before .args .meta .now) FREE 0) 0 (λ e. c .before .before .if2 .left (omega (arith, c .before .before .before .word-at .ensures, e))), lt-ltb (getD (c .before .before .before .before .before .before .before .args .meta .now) CELLS 0) (getD (c .before .before .before .before .before .before .before .args .meta .now) FREE 0) (omega (arith, c .before .before .before .word-at .ensures, c .before .word-at2 .ensures, c .if3 .taken)))
+returns-3 c = rw (lt-leb (base .writes) (getD (c .before .before .before .before .before .before .before .args .slot .now) (WRITES base) 0) (omega arith), ne-eqb (getD (c .before .before .before .before .before .before .before .args .meta .now) FREE 0) 0 (λ e. omega arith), lt-ltb (getD (c .before .before .before .before .before .before .before .args .meta .now) CELLS 0) (getD (c .before .before .before .before .before .before .before .args .meta .now) FREE 0) (omega arith))
 
 returns-4 : tie.Need-returns-4
 unfolding verdict
-returns-4 c = rw (lt-leb (base .writes) (getD (c .before .before .before .before .before .before .before .args .slot .now) (WRITES base) 0) (c .before .before .before .before .if1 .left), ne-eqb (getD (c .before .before .before .before .before .before .before .args .meta .now) FREE 0) 0 (λ e. c .before .before .if2 .left (omega (arith, c .before .before .before .word-at .ensures, e))), le-ltb (getD (c .before .before .before .before .before .before .before .args .meta .now) CELLS 0) (getD (c .before .before .before .before .before .before .before .args .meta .now) FREE 0) (omega (arith, c .before .before .before .word-at .ensures, c .before .word-at2 .ensures, c .if3 .left)))
+returns-4 c = rw (lt-leb (base .writes) (getD (c .before .before .before .before .before .before .before .args .slot .now) (WRITES base) 0) (omega arith), ne-eqb (getD (c .before .before .before .before .before .before .before .args .meta .now) FREE 0) 0 (λ e. omega arith), le-ltb (getD (c .before .before .before .before .before .before .before .args .meta .now) CELLS 0) (getD (c .before .before .before .before .before .before .before .args .meta .now) FREE 0) (omega arith))
 
 pub check-room-spec : {M : Type 1} → statement M
 check-room-spec =
     tie.close
     (tie.spec
-    element-copy-out-if1
-    returns
+    element-copy-out-entries
     word-at-requires
+    returns
     returns-2
     word-at-requires-2
     returns-3
