@@ -11,11 +11,8 @@ returns c = sym (leads-none (c .before .args .s .now) (c .if1 .taken))
 returns-2 : tie.Need-returns-2
 returns-2 c = sym (leads-one (c .before .before .args .s .now) (c .if2 .taken))
 
-shared-slice-read-result : tie.Need-shared-slice-read-result
-shared-slice-read-result c = search needs
-
 returns-3 : tie.Need-returns-3
 returns-3 c = sym (leads-more (c .before .before .before .args .s .now) (omega arith))
 
 pub leads-spec : {M : Type 1} → statement M
-leads-spec = tie.close (tie.spec returns returns-2 shared-slice-read-result returns-3)
+leads-spec = tie.close (tie.spec returns returns-2 (λ c. search needs) returns-3)

@@ -15,26 +15,17 @@ Inv-loop s v₀ i₀ v i = (i ≤ length s) × (v < 2 ^ 64) × (readOn v (drop i
 abbrev μ-loop : tie.MeasureT-loop
 μ-loop s v₀ i₀ v i = length s - i
 
-leads-requires : tie.Need-leads-requires Inv-loop μ-loop
-leads-requires c κs = search needs
-
 returns : tie.Need-returns Inv-loop μ-loop
 returns c = ap told (sym (number-bad (c .before .before .before .args .s .now) (sym (c .before .leads .ensures) ∙ not-true (c .before .leads .result) (c .if1 .taken))))
 
 loop-holds : tie.Need-loop-holds Inv-loop μ-loop
 loop-holds c = (omega arith, omega arith, number-start (c .before .before .before .args .s .now) (sym (c .before .leads .ensures) ∙ not-false (c .before .leads .result) (c .if1 .left)))
 
-shared-slice-read-b : tie.Need-shared-slice-read-b Inv-loop μ-loop
-shared-slice-read-b c = search needs
-
 returns-2 : tie.Need-returns-2 Inv-loop μ-loop
 returns-2 c = ap told (sym (read-low (c .before .before .before .before .before .before .before .args .s .now) (c .before .before .before .loop .v) (c .before .before .before .loop .i) (c .before .before .loop-test .taken) (c .if2 .taken)) ∙ c .before .before .before .loop .inv .2)
 
 returns-3 : tie.Need-returns-3 Inv-loop μ-loop
 returns-3 c = ap told (sym (read-high (c .before .before .before .before .before .before .before .before .args .s .now) (c .before .before .before .before .loop .v) (c .before .before .before .before .loop .i) (c .before .before .before .loop-test .taken) (c .if3 .taken)) ∙ c .before .before .before .before .loop .inv .2)
-
-cast-d : tie.Need-cast-d Inv-loop μ-loop
-cast-d c = search needs
 
 sub-if4 : tie.Need-sub-if4 Inv-loop μ-loop
 sub-if4 c = omega (arith, c .before .before .before .before .before .before .before .shared-slice-known .given (c .before .before .before .before .loop .i))
@@ -66,13 +57,13 @@ parse-spec =
     (tie.spec
     Inv-loop
     μ-loop
-    leads-requires
+    (λ c κs. search needs)
     returns
     loop-holds
-    shared-slice-read-b
+    (λ c. search needs)
     returns-2
     returns-3
-    cast-d
+    (λ c. search needs)
     sub-if4
     returns-4
     mul-v

@@ -15,9 +15,6 @@ Inv-loop buf₀ at n k i₀ rest₀ buf i rest = (i ≤ k) × (length buf ≡ le
 abbrev μ-loop : tie.MeasureT-loop
 μ-loop buf₀ at n k i₀ rest₀ buf i rest = i
 
-count-requires : tie.Need-count-requires Inv-loop μ-loop
-count-requires c κs = search needs
-
 loop-holds : tie.Need-loop-holds Inv-loop μ-loop
 loop-holds c = (omega arith, refl, put-start (c .before .before .args .buf .now) (c .before .before .args .at) (c .before .before .args .n) (c .count .result) (c .count .ensures .0))
 
@@ -57,7 +54,7 @@ put-spec =
     (tie.spec
     Inv-loop
     μ-loop
-    count-requires
+    (λ c κs. search needs)
     loop-holds
     sub-i
     cast-buf

@@ -5,27 +5,12 @@ use borrow.Author.Needs.{needs}
 use Rattle.lines.proofs.key_at.Statement.{statement}
 use Rattle.lines.proofs.key_at.Tie as tie
 
-enum-told : tie.Need-enum-told
-enum-told c = search needs
-
 returns : tie.Need-returns
 returns c = others-end _ (c .match .keys2) _ _ _ (c .before .before .args .s .now) (c .before .before .args .at) (c .before .before .pre)
-
-add-if1 : tie.Need-add-if1
-add-if1 c = search needs
 
 returns-2 : tie.Need-returns-2
 unfolding ending
 returns-2 c = rw (c .before .enum-told .given .1) (key-empty _ _ _ (c .before .before .before .before .args .s .now) (c .before .before .before .before .args .at) (c .if1 .taken))
-
-number-at-requires : tie.Need-number-at-requires
-number-at-requires c κs = search needs
-
-enum-told-2 : tie.Need-enum-told-2
-enum-told-2 c = search needs
-
-enum-known-key : tie.Need-enum-known-key
-enum-known-key c = search needs
 
 returns-3 : tie.Need-returns-3
 unfolding ending
@@ -43,13 +28,13 @@ pub key-at-spec : {M : Type 1} → statement M
 key-at-spec =
     tie.close
     (tie.spec
-    enum-told
+    (λ c. search needs)
     returns
-    add-if1
+    (λ c. search needs)
     returns-2
-    number-at-requires
-    enum-told-2
-    enum-known-key
+    (λ c κs. search needs)
+    (λ c. search needs)
+    (λ c. search needs)
     returns-3
     returns-4
     returns-5)

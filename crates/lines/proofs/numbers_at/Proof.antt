@@ -18,14 +18,8 @@ loop-holds c = (c .before .pre, going-none (c .before .args .s .now) (c .before 
 number-at-requires : tie.Need-number-at-requires Inv-loop μ-loop
 number-at-requires c κs = c .before .loop .inv .0
 
-enum-told : tie.Need-enum-told Inv-loop μ-loop
-enum-told c = search needs
-
 returns : tie.Need-returns Inv-loop μ-loop
 returns c = going-bad (c .before .before .before .before .before .before .args .s .now) (c .before .before .before .before .before .before .args .at) (c .before .before .before .before .before .before .args .n) _ _ _ _ _ (c .before .before .before .before .loop .inv .1) (c .before .before .before .before .loop .left - 1) (omega arith) _ (c .before .before .number-at .ensures) (c .enum-told .given .1)
-
-enum-known-value : tie.Need-enum-known-value Inv-loop μ-loop
-enum-known-value c = search needs
 
 sub-left : tie.Need-sub-left Inv-loop μ-loop
 sub-left c = omega arith
@@ -47,9 +41,9 @@ numbers-at-spec =
     μ-loop
     loop-holds
     number-at-requires
-    enum-told
+    (λ c. search needs)
     returns
-    enum-known-value
+    (λ c. search needs)
     sub-left
     loop-less
     loop-again

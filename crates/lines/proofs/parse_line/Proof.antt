@@ -6,29 +6,8 @@ use borrow.Author.Needs.{needs}
 use Rattle.lines.proofs.parse_line.Statement.{statement}
 use Rattle.lines.proofs.parse_line.Tie as tie
 
-comma-requires : tie.Need-comma-requires
-comma-requires c κs = search needs
-
 slice-aggregate-word-of : tie.Need-slice-aggregate-word-of
 slice-aggregate-word-of c = sym (length-take-le (c .before .comma .result) (c .before .before .before .args .s .now) (c .before .comma .ensures .high))
-
-word-of-requires : tie.Need-word-of-requires
-word-of-requires c κs = search needs
-
-numbers-of-requires : tie.Need-numbers-of-requires
-numbers-of-requires c κs = search needs
-
-numbers-at-requires : tie.Need-numbers-at-requires
-numbers-at-requires c κs = search needs
-
-enum-told : tie.Need-enum-told
-enum-told c = search needs
-
-enum-known-a : tie.Need-enum-known-a
-enum-known-a c = search needs
-
-made-requires : tie.Need-made-requires
-made-requires c κs = search needs
 
 returns : tie.Need-returns
 returns c = c .made .ensures ∙ means-all (c .before .before .before .before .before .before .before .before .before .before .before .args .s .now) _ (c .before .before .before .before .before .before .before .before .before .comma .ensures) _ (c .before .before .before .before .before .before .before .word-of .ensures) _ (c .before .before .before .before .before .before .numbers-of .ensures) _ (c .before .before .before .before .before .numbers-at .ensures) _ _ _ _ (c .before .before .before .a .given .1) (c .before .if1 .taken)
@@ -46,14 +25,14 @@ pub parse-line-spec : {M : Type 1} → statement M
 parse-line-spec =
     tie.close
     (tie.spec
-    comma-requires
+    (λ c κs. search needs)
     slice-aggregate-word-of
-    word-of-requires
-    numbers-of-requires
-    numbers-at-requires
-    enum-told
-    enum-known-a
-    made-requires
+    (λ c κs. search needs)
+    (λ c κs. search needs)
+    (λ c κs. search needs)
+    (λ c. search needs)
+    (λ c. search needs)
+    (λ c κs. search needs)
     returns
     key-at-requires
     returns-2

@@ -7,12 +7,6 @@ use borrow.Author.Needs.{needs}
 use Rattle.writes.proofs.check_room.Statement.{statement}
 use Rattle.writes.proofs.check_room.Tie as tie
 
-element-copy-out-entries : tie.Need-element-copy-out-entries
-element-copy-out-entries c = search needs
-
-word-at-requires : tie.Need-word-at-requires
-word-at-requires c κs = search needs
-
 returns : tie.Need-returns
 unfolding verdict
 returns c = rw (le-leb (base .writes) (getD (c .before .before .before .before .args .slot .now) (WRITES base) 0) (omega arith))
@@ -20,9 +14,6 @@ returns c = rw (le-leb (base .writes) (getD (c .before .before .before .before .
 returns-2 : tie.Need-returns-2
 unfolding verdict
 returns-2 c = rw (lt-leb (base .writes) (getD (c .before .before .before .before .before .args .slot .now) (WRITES base) 0) (omega arith), eq-eqb (getD (c .before .before .before .before .before .args .meta .now) FREE 0) 0 (omega arith))
-
-word-at-requires-2 : tie.Need-word-at-requires-2
-word-at-requires-2 c κs = search needs
 
 returns-3 : tie.Need-returns-3
 unfolding verdict
@@ -36,10 +27,10 @@ pub check-room-spec : {M : Type 1} → statement M
 check-room-spec =
     tie.close
     (tie.spec
-    element-copy-out-entries
-    word-at-requires
+    (λ c. search needs)
+    (λ c κs. search needs)
     returns
     returns-2
-    word-at-requires-2
+    (λ c κs. search needs)
     returns-3
     returns-4)

@@ -9,17 +9,8 @@ returns : tie.Need-returns
 unfolding lockBase
 returns c = rw (eq-eqb _ _ (c .if1 .taken))
 
-version-at-requires : tie.Need-version-at-requires
-version-at-requires c κs = search needs
-
-locked-for-requires : tie.Need-locked-for-requires
-locked-for-requires c κs = search needs
-
 put-version-requires : tie.Need-put-version-requires
 put-version-requires c κs = record { low = omega arith; high = c .before .before .before .before .before .before .pre }
-
-same-length : tie.Need-same-length
-same-length c = search needs
 
 returns-2 : tie.Need-returns-2
 unfolding lockBase
@@ -30,8 +21,8 @@ lock-base-spec =
     tie.close
     (tie.spec
     returns
-    version-at-requires
-    locked-for-requires
+    (λ c κs. search needs)
+    (λ c κs. search needs)
     put-version-requires
-    same-length
+    (λ c. search needs)
     returns-2)
