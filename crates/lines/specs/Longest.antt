@@ -1,5 +1,5 @@
 -- How long a record can be that means a call.
-use Prim.Native.Nat.{ℕ, suc, _+_, _-_, _<_}
+use Prim.Native.Nat.{ℕ, zero, suc, _+_, _-_, _*_, _<_}
 use mathlib.Core.Bool.{Bool, true, false}
 use mathlib.Core.List.{List, [], _∷_}
 use mathlib.Core.Option.{Option, none, some}
@@ -14,6 +14,7 @@ use Rattle.digits.specs.Laws.{too-long-for-a-number}
 use Rattle.lines.specs.declared.Line.{Line}
 use Rattle.lines.specs.declared.Word.{Word}
 use Rattle.lines.specs.Lines.{onto, joined, split, wordOf, wStore, wBegin, wRead, wWrite, wCommit, wAbort, wVacuum, wFind, number, done, keyed, call, lineOf, meaning}
+use Rattle.lines.specs.Fields.{numbered}
 use Rattle.lines.specs.Words.{same-lengths}
 
 -- the longest: a word of six bytes, and four numbers of twenty, each after its comma
@@ -59,16 +60,11 @@ number-long m k rest (f ∷ fs) h = by (ltb most (length f)) refl
     by true e = rw (too-long-for-a-number f (ltb-true most (length f) e))
     by false e = on (omega (arith, ltb-false most (length f) e)) (numberOf f) refl
 
-two-long : (k : ℕ → ℕ → Line) (fs : List (List ℕ)) → 42 < total fs → number (λ a. number (λ b. done (k a b))) fs ≡ Line.Other
-two-long k fs h = number-long 21 (λ a. number (λ b. done (k a b))) (λ a gs g. number-long 0 (λ b. done (k a b)) (λ b. done-long (k a b)) gs g) fs h
-
-three-long : (m : ℕ) (k : ℕ → ℕ → ℕ → List (List ℕ) → Line) → ((a b c : ℕ) (fs : List (List ℕ)) → m < total fs → k a b c fs ≡ Line.Other)
-    → (fs : List (List ℕ)) → m + 63 < total fs → number (λ a. number (λ b. number (λ c. k a b c))) fs ≡ Line.Other
-three-long m k rest fs h =
-    number-long (m + 42) (λ a. number (λ b. number (λ c. k a b c)))
-    (λ a gs g. number-long (m + 21) (λ b. number (λ c. k a b c)) (λ b hs i. number-long m (k a b) (rest a b) hs i) gs (omega arith))
-    fs
-    (omega arith)
+-- so do n numbers
+numbered-long : (n m : ℕ) (k : ℕ → ℕ → ℕ → List (List ℕ) → Line) → ((a b c : ℕ) (fs : List (List ℕ)) → m < total fs → k a b c fs ≡ Line.Other)
+    → (a b c : ℕ) (fs : List (List ℕ)) → m + 21 * n < total fs → numbered n k a b c fs ≡ Line.Other
+numbered-long zero m k rest a b c fs h = rest a b c fs (omega arith)
+numbered-long (suc n) m k rest a b c fs h = number-long (m + 21 * n) (λ v. numbered n k b c v) (λ v. numbered-long n m k rest b c v) fs (omega arith)
 
 keyed-long : (a b c : ℕ) (fs : List (List ℕ)) → 21 < total fs → keyed a b c fs ≡ Line.Other
 unfolding keyed
@@ -78,14 +74,14 @@ keyed-long a b c ((d ∷ f) ∷ fs) h = number-long 0 (λ key. done (Line.Write 
 
 call-long : (w : Word) (fs : List (List ℕ)) → 84 < total fs → call w fs ≡ Line.Other
 unfolding call
-call-long Word.Store fs h = two-long (λ n r. Line.Store n r) fs (omega arith)
+call-long Word.Store fs h = numbered-long 2 0 (λ x n r. done (Line.Store n r)) (λ x n r. done-long (Line.Store n r)) 0 0 0 fs (omega arith)
 call-long Word.Begin fs h = done-long Line.Begin fs (omega arith)
-call-long Word.Read fs h = three-long 0 (λ a b c. done (Line.Read a b c)) (λ a b c. done-long (Line.Read a b c)) fs (omega arith)
-call-long Word.Write fs h = three-long 21 keyed keyed-long fs h
-call-long Word.Commit fs h = two-long (λ slot id. Line.Commit slot id) fs (omega arith)
-call-long Word.Abort fs h = two-long (λ slot id. Line.Abort slot id) fs (omega arith)
-call-long Word.Vacuum fs h = two-long (λ row request. Line.Vacuum row request) fs (omega arith)
-call-long Word.Find fs h = three-long 0 (λ a b c. done (Line.Find a b c)) (λ a b c. done-long (Line.Find a b c)) fs (omega arith)
+call-long Word.Read fs h = numbered-long 3 0 (λ slot id row. done (Line.Read slot id row)) (λ slot id row. done-long (Line.Read slot id row)) 0 0 0 fs (omega arith)
+call-long Word.Write fs h = numbered-long 3 21 keyed keyed-long 0 0 0 fs (omega arith)
+call-long Word.Commit fs h = numbered-long 2 0 (λ x slot id. done (Line.Commit slot id)) (λ x slot id. done-long (Line.Commit slot id)) 0 0 0 fs (omega arith)
+call-long Word.Abort fs h = numbered-long 2 0 (λ x slot id. done (Line.Abort slot id)) (λ x slot id. done-long (Line.Abort slot id)) 0 0 0 fs (omega arith)
+call-long Word.Vacuum fs h = numbered-long 2 0 (λ x row request. done (Line.Vacuum row request)) (λ x row request. done-long (Line.Vacuum row request)) 0 0 0 fs (omega arith)
+call-long Word.Find fs h = numbered-long 3 0 (λ slot id key. done (Line.Find slot id key)) (λ slot id key. done-long (Line.Find slot id key)) 0 0 0 fs (omega arith)
 call-long Word.Other fs h = refl
 
 -- no word of a call is longer than six bytes
