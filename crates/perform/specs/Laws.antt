@@ -1,6 +1,6 @@
 -- From what a public call answers to what a record does.
 use Prim.Native.Nat.{ℕ, _+_, _*_, _<_, _≤_}
-use mathlib.Core.List.{List, [], _∷_, _++_}
+use mathlib.Core.List.{List, [], _∷_, _++_, append-nil, append-assoc}
 use mathlib.Core.Option.{Option, none, some}
 use mathlib.Core.Path.{_≡_, refl, sym, ap, _∙_}
 use native.Mathlib.Numerals.{add-one}
@@ -22,11 +22,12 @@ use Rattle.rules.specs.Abort.{abortOut}
 use Rattle.rules.specs.Vacuum.{vacuumOut}
 use Rattle.rules.specs.Lookup.{lookupAllOut}
 use Rattle.lines.specs.declared.Line.{Line}
+use Rattle.lines.specs.Lines.{meaning}
 use Rattle.digits.specs.Numbers.{Laid}
 use Rattle.answers.specs.Answers.{fields, answer, crlf, room, wOk, wNone, wEmpty, wKey, wRefused}
 use Rattle.answers.specs.Laws.{list-fits}
 use Rattle.perform.specs.declared.Said.{Said}
-use Rattle.perform.specs.Perform.{Rooms, readText, answerText, countOf, cellsOf, saidText, performed}
+use Rattle.perform.specs.Perform.{Rooms, readText, answerText, countOf, cellsOf, saidText, performed, replayed, memoryAfter}
 use Rattle.perform.specs.Counted.{Counted, vacuum-counted, lookup-all-counted}
 
 abbrev pub rooms : ℕ → ℕ → Rooms
@@ -36,6 +37,10 @@ rooms a b = record { reports = a; results = b }
 pub record Acted (z : Rooms) (l : Line) (m after : Mem base) (s : Said) (numbers : List ℕ) : Type 0 where
   pub text : saidText s numbers ≡ performed z l m .line
   pub memory : after ≡ performed z l m .after
+
+-- the same of a call that lists nothing, whatever the buffers of lists are
+abbrev pub Plain : Line → Mem base → Mem base → Said → Type 0
+Plain l m after s = (z : Rooms) (numbers : List ℕ) → Acted z l m after s numbers
 
 -- a call with a list: its answer, the memory after it, and its list at the front of the numbers
 pub record Told {B : Type 0} (o : Outcome base Answer B) (l : List ℕ) (a : Answer) (after : Mem base) (numbers : List ℕ) : Type 0 where
@@ -202,3 +207,26 @@ module _ (z : Rooms) (m after : Mem base) (numbers : List ℕ) where
   pub other-acted : after ≡ m → Acted z Line.Other m after Said.Other numbers
   unfolding performed
   other-acted e = record { text = refl; memory = e }
+
+-- ---- records one after the other
+
+module _ (z : Rooms) where
+  pub replayed-one : (r : List ℕ) (m : Mem base) → replayed z (r ∷ []) m ≡ performed z (meaning r) m .line
+  unfolding replayed
+  replayed-one r m = append-nil (performed z (meaning r) m .line)
+
+  pub memory-after-one : (r : List ℕ) (m : Mem base) → memoryAfter z (r ∷ []) m ≡ performed z (meaning r) m .after
+  unfolding memoryAfter
+  memory-after-one r m = refl
+
+  pub memory-after-both : (rs ss : List (List ℕ)) (m : Mem base) → memoryAfter z (rs ++ ss) m ≡ memoryAfter z ss (memoryAfter z rs m)
+  unfolding memoryAfter
+  memory-after-both [] ss m = refl
+  memory-after-both (r ∷ rs) ss m = memory-after-both rs ss (performed z (meaning r) m .after)
+
+  pub replayed-both : (rs ss : List (List ℕ)) (m : Mem base) → replayed z (rs ++ ss) m ≡ replayed z rs m ++ replayed z ss (memoryAfter z rs m)
+  unfolding replayed memoryAfter
+  replayed-both [] ss m = refl
+  replayed-both (r ∷ rs) ss m =
+      let x = performed z (meaning r) m in
+      ap (λ (l : List ℕ). x .line ++ l) (replayed-both rs ss (x .after)) ∙ sym (append-assoc (x .line) (replayed z rs (x .after)) (replayed z ss (memoryAfter z rs (x .after))))

@@ -82,6 +82,11 @@ unfoldable pub replayed : Rooms → List (List ℕ) → Mem base → List ℕ
 replayed z [] m = []
 replayed z (r ∷ rs) m = let x = performed z (meaning r) m in x .line ++ replayed z rs (x .after)
 
+-- the memory after them
+unfoldable pub memoryAfter : Rooms → List (List ℕ) → Mem base → Mem base
+memoryAfter z [] m = m
+memoryAfter z (r ∷ rs) m = memoryAfter z rs (performed z (meaning r) m .after)
+
 -- ---- as the code has it between the call and its line: the numbers of a list stand at a buffer's front
 
 abbrev pub countOf : Answer → ℕ

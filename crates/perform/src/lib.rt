@@ -4,11 +4,13 @@ use kinds::Answer;
 use kinds::ReadAnswer;
 use kinds::Value;
 use lines::Line;
+use store::abort;
+use store::commit;
 use words::CELL_WORDS;
 use words::TxId;
 use words::WIDTH;
 ghost use mathlib.Core.Path.{_≡_};
-ghost use Prim.Native.Nat.{_+_, _≤_};
+ghost use Prim.Native.Nat.{ℕ, _+_, _≤_};
 ghost use lib.ListN.{length, take};
 ghost use Rattle.rules.specs.Lent.{memIn, memOut};
 ghost use Rattle.rules.specs.Vacuum.{vacuumOut};
@@ -16,7 +18,7 @@ ghost use Rattle.digits.specs.Numbers.{Laid};
 ghost use Rattle.lines.specs.Lines.{meaning};
 ghost use Rattle.answers.specs.Answers.{room};
 ghost use Rattle.perform.specs.Perform.{readText, answerText, countOf, cellsOf, saidText, performed};
-ghost use Rattle.perform.specs.Laws.{Told, Acted, rooms};
+ghost use Rattle.perform.specs.Laws.{Told, Acted, Plain, rooms};
 
 // What a call came to. The rows or the cells that `Listed` counts stand at the front of a buffer.
 pub enum Said {
@@ -121,6 +123,70 @@ fn sweep(
     a
 }
 
+// A read.
+fn look(
+    meta: &[u64],
+    rows: &[u64],
+    cells: &[[u64; CELL_WORDS]],
+    slots: &mut [[u64; WIDTH]],
+    slot: u64,
+    id: u64,
+    row: u64,
+) -> Said
+    ensures { λ s. ⌜ Plain (Line.Read slot id row) (memIn meta rows cells slots) (memOut meta rows cells slots) s ⌝ }
+{
+    Said::Looked(store::read(meta, rows, cells, slots, slot, TxId(id), row))
+}
+
+// A write of a key.
+fn put(
+    meta: &mut [u64],
+    rows: &[u64],
+    cells: &mut [[u64; CELL_WORDS]],
+    slots: &mut [[u64; WIDTH]],
+    slot: u64,
+    id: u64,
+    row: u64,
+    key: u64,
+) -> Said
+    ensures { λ s. ⌜ Plain (Line.Write slot id row key) (memIn meta rows cells slots) (memOut meta rows cells slots) s ⌝ }
+{
+    let value = Value::Key(key);
+    Said::Gave(store::write(meta, rows, cells, slots, slot, TxId(id), row, value))
+}
+
+// A write of no key.
+fn erase(
+    meta: &mut [u64],
+    rows: &[u64],
+    cells: &mut [[u64; CELL_WORDS]],
+    slots: &mut [[u64; WIDTH]],
+    slot: u64,
+    id: u64,
+    row: u64,
+) -> Said
+    ensures { λ s. ⌜ Plain (Line.Delete slot id row) (memIn meta rows cells slots) (memOut meta rows cells slots) s ⌝ }
+{
+    let value = Value::Nothing;
+    Said::Gave(store::write(meta, rows, cells, slots, slot, TxId(id), row, value))
+}
+
+// A lookup whose rows are listed.
+fn find(
+    meta: &[u64],
+    rows: &[u64],
+    cells: &[[u64; CELL_WORDS]],
+    slots: &mut [[u64; WIDTH]],
+    slot: u64,
+    id: u64,
+    key: u64,
+    numbers: &mut [u64],
+) -> Said
+    ensures { λ s. ⌜ ((k : ℕ) → Acted (rooms k (length (now (numbers .entry)))) (Line.Find slot id key) (memIn meta rows cells slots) (memOut meta rows cells slots) s (now (numbers .exit))) ⌝ }
+{
+    Said::Listed(store::lookup_all(meta, rows, cells, slots, slot, TxId(id), key, numbers))
+}
+
 // The call that a line is.
 fn act(
     line: Line,
@@ -137,51 +203,11 @@ fn act(
     match line {
         Line::Store { n, r } => Said::Gave(store::create(meta, rows, cells, slots, n, r)),
         Line::Begin => Said::Gave(store::begin(meta, rows, cells, slots)),
-        Line::Read { slot, id, row } => Said::Looked(store::read(
-            meta,
-            rows,
-            cells,
-            slots,
-            slot,
-            TxId(id),
-            row,
-        )),
-        Line::Write { slot, id, row, key } => Said::Gave(store::write(
-            meta,
-            rows,
-            cells,
-            slots,
-            slot,
-            TxId(id),
-            row,
-            Value::Key(key),
-        )),
-        Line::Delete { slot, id, row } => Said::Gave(store::write(
-            meta,
-            rows,
-            cells,
-            slots,
-            slot,
-            TxId(id),
-            row,
-            Value::Nothing,
-        )),
-        Line::Commit { slot, id } => Said::Gave(store::commit(
-            meta,
-            rows,
-            cells,
-            slots,
-            slot,
-            TxId(id),
-        )),
-        Line::Abort { slot, id } => Said::Gave(store::abort(
-            meta,
-            rows,
-            cells,
-            slots,
-            slot,
-            TxId(id),
-        )),
+        Line::Read { slot, id, row } => look(meta, rows, cells, slots, slot, id, row),
+        Line::Write { slot, id, row, key } => put(meta, rows, cells, slots, slot, id, row, key),
+        Line::Delete { slot, id, row } => erase(meta, rows, cells, slots, slot, id, row),
+        Line::Commit { slot, id } => Said::Gave(commit(meta, rows, cells, slots, slot, TxId(id))),
+        Line::Abort { slot, id } => Said::Gave(abort(meta, rows, cells, slots, slot, TxId(id))),
         Line::Vacuum { row, request } => Said::Listed(sweep(
             meta,
             rows,
@@ -192,16 +218,7 @@ fn act(
             reports,
             numbers,
         )),
-        Line::Find { slot, id, key } => Said::Listed(store::lookup_all(
-            meta,
-            rows,
-            cells,
-            slots,
-            slot,
-            TxId(id),
-            key,
-            numbers,
-        )),
+        Line::Find { slot, id, key } => find(meta, rows, cells, slots, slot, id, key, numbers),
         Line::Other => Said::Other,
     }
 }

@@ -5,117 +5,85 @@ use Rattle.answers.specs.Laws.{laid-as}
 use borrow.Author.Needs.{needs}
 use Rattle.perform.proofs.put_answer.Statement.{statement}
 use Rattle.perform.proofs.put_answer.Tie as tie
-use Rattle.perform.proofs.put_answer.Reads as reads
-use Rattle.perform.proofs.put_answer.Lts as lts
-use Rattle.answers.proofs.counted.Reads as counted-reads
-use Rattle.answers.proofs.ok.Reads as ok-reads
-use Rattle.answers.proofs.refused.Reads as refused-reads
 
--- src/lib.rt:47:37
 enum-told : tie.Need-enum-told
 enum-told c = search needs
 
--- src/lib.rt:47:46
 slice-aggregate-ok : tie.Need-slice-aggregate-ok
 slice-aggregate-ok c = search needs
 
--- src/lib.rt:47:25
 ok-requires : tie.Need-ok-requires
 ok-requires c κs = search needs
 
--- src/lib.rt:48:25
 enum-known-a : tie.Need-enum-known-a
 enum-known-a c = search needs
 
--- src/lib.rt:50:34
 slice-aggregate-ok-2 : tie.Need-slice-aggregate-ok-2
 slice-aggregate-ok-2 c = search needs
 
--- src/lib.rt:50:13
 ok-requires-2 : tie.Need-ok-requires-2
 ok-requires-2 c κs = search needs
 
--- src/lib.rt:52:23
 enum-known-a-2 : tie.Need-enum-known-a-2
 enum-known-a-2 c = search needs
 
--- src/lib.rt:54:34
 slice-aggregate-ok-3 : tie.Need-slice-aggregate-ok-3
 slice-aggregate-ok-3 c = search needs
 
--- src/lib.rt:54:13
 ok-requires-3 : tie.Need-ok-requires-3
 ok-requires-3 c κs = search needs
 
--- src/lib.rt:56:28
 enum-known-a-3 : tie.Need-enum-known-a-3
 enum-known-a-3 c = search needs
 
--- src/lib.rt:56:48
 counted-requires : tie.Need-counted-requires
 counted-requires c κs = search needs
 
--- src/lib.rt:57:42
 enum-told-2 : tie.Need-enum-told-2
 enum-told-2 c = search needs
 
--- src/lib.rt:57:30
 ok-requires-4 : tie.Need-ok-requires-4
 ok-requires-4 c κs = search needs
 
--- src/lib.rt:58:27
 enum-known-a-4 : tie.Need-enum-known-a-4
 enum-known-a-4 c = search needs
 
--- src/lib.rt:58:49
 refused-requires : tie.Need-refused-requires
 refused-requires c κs = search needs
 
--- src/lib.rt:42:1
 same-length : tie.Need-same-length
 same-length c = search needs
 
--- src/lib.rt:42:1
 returns : tie.Need-returns
 returns c = laid-as (c .before .before .ok .ensures) (ap (λ (a : Answer). answerText a (c .before .before .before .before .before .before .before .before .before .args .list .now)) (sym (c .before .before .before .before .before .enum-told .given .1)))
 
--- src/lib.rt:42:1
 same-length-2 : tie.Need-same-length-2
 same-length-2 c = search needs
 
--- src/lib.rt:42:1
 returns-2 : tie.Need-returns-2
 returns-2 c = laid-as (c .before .before .ok2 .ensures) (ap (λ (a : Answer). answerText a (c .before .before .before .before .before .before .before .before .before .before .args .list .now)) (sym (c .before .before .before .before .before .before .a .given .1)))
 
--- src/lib.rt:42:1
 same-length-3 : tie.Need-same-length-3
 same-length-3 c = search needs
 
--- src/lib.rt:42:1
 returns-3 : tie.Need-returns-3
 returns-3 c = laid-as (c .before .before .ok3 .ensures) (ap (λ (a : Answer). answerText a (c .before .before .before .before .before .before .before .before .before .before .args .list .now)) (sym (c .before .before .before .before .before .before .a2 .given .1)))
 
--- src/lib.rt:42:1
 same-length-4 : tie.Need-same-length-4
 same-length-4 c = search needs
 
--- src/lib.rt:42:1
 returns-4 : tie.Need-returns-4
 returns-4 c = laid-as (c .before .before .counted .ensures) (ap (λ (a : Answer). answerText a (c .before .before .before .before .before .before .before .before .before .args .list .now)) (sym (c .before .before .before .before .before .a3 .given .1)))
 
--- src/lib.rt:42:1
 same-length-5 : tie.Need-same-length-5
 same-length-5 c = search needs
 
--- src/lib.rt:42:1
 returns-5 : tie.Need-returns-5
 returns-5 c = laid-as (c .before .before .ok4 .ensures) (ap (λ (a : Answer). answerText a (c .before .before .before .before .before .before .before .before .args .list .now)) (sym (c .before .before .before .before .enum-told2 .given .1)))
 
--- src/lib.rt:42:1
 same-length-6 : tie.Need-same-length-6
 same-length-6 c = search needs
 
--- src/lib.rt:42:1
 returns-6 : tie.Need-returns-6
 returns-6 c = laid-as (c .before .before .refused .ensures) (ap (λ (a : Answer). answerText a (c .before .before .before .before .before .before .before .before .before .args .list .now)) (sym (c .before .before .before .before .before .a4 .given .1)))
 

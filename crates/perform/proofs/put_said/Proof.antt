@@ -6,87 +6,61 @@ use Rattle.answers.specs.Laws.{laid-as}
 use borrow.Author.Needs.{needs}
 use Rattle.perform.proofs.put_said.Statement.{statement}
 use Rattle.perform.proofs.put_said.Tie as tie
-use Rattle.perform.proofs.put_said.Reads as reads
-use Rattle.perform.proofs.put_said.Lts as lts
-use Rattle.answers.proofs.refused.Reads as refused-reads
-use Rattle.perform.proofs.count_of.Reads as count-of-reads
-use Rattle.perform.proofs.put_answer.Reads as put-answer-reads
-use Rattle.perform.proofs.put_read.Reads as put-read-reads
-use Rattle.store.proofs.front.Reads as front-reads
 
--- src/lib.rt:84:22
 enum-known-said : tie.Need-enum-known-said
 enum-known-said c = search needs
 
--- src/lib.rt:84:28
 put-read-requires : tie.Need-put-read-requires
 put-read-requires c κs = search needs
 
--- src/lib.rt:85:20
 enum-known-said-2 : tie.Need-enum-known-said-2
 enum-known-said-2 c = search needs
 
--- src/lib.rt:85:49
 slice-aggregate-put-answer : tie.Need-slice-aggregate-put-answer
 slice-aggregate-put-answer c = search needs
 
--- src/lib.rt:85:26
 put-answer-requires : tie.Need-put-answer-requires
 put-answer-requires c κs = search needs
 
--- src/lib.rt:86:22
 enum-known-said-3 : tie.Need-enum-known-said-3
 enum-known-said-3 c = search needs
 
--- src/lib.rt:86:73
 count-of-requires : tie.Need-count-of-requires
 count-of-requires c κs = search needs
 
--- src/lib.rt:86:51
 front-requires : tie.Need-front-requires
 front-requires c κs = search needs
 
--- src/lib.rt:86:28
 put-answer-requires-2 : tie.Need-put-answer-requires-2
 put-answer-requires-2 c κs = front-room (c .before .before .before .before .before .before .before .before .args .numbers .now) _ (c .before .count-of .result) (c .before .before .before .before .before .before .before .before .args .at) _ (c .front .ensures) (c .before .before .before .before .before .before .before .before .pre)
 
--- src/lib.rt:87:41
 enum-told : tie.Need-enum-told
 enum-told c = search needs
 
--- src/lib.rt:87:24
 refused-requires : tie.Need-refused-requires
 refused-requires c κs = search needs
 
--- src/lib.rt:79:1
 same-length : tie.Need-same-length
 same-length c = search needs
 
--- src/lib.rt:79:1
 returns : tie.Need-returns
 returns c = laid-as (c .before .before .put-read .ensures) (ap (λ (s : Said). saidText s (c .before .before .before .before .before .before .before .before .before .args .numbers .now)) (sym (c .before .before .before .before .before .said .given .1)))
 
--- src/lib.rt:79:1
 same-length-2 : tie.Need-same-length-2
 same-length-2 c = search needs
 
--- src/lib.rt:79:1
 returns-2 : tie.Need-returns-2
 returns-2 c = laid-as (c .before .before .put-answer .ensures) (ap (λ (s : Said). saidText s (c .before .before .before .before .before .before .before .before .before .before .args .numbers .now)) (sym (c .before .before .before .before .before .before .said2 .given .1)))
 
--- src/lib.rt:79:1
 same-length-3 : tie.Need-same-length-3
 same-length-3 c = search needs
 
--- src/lib.rt:79:1
 returns-3 : tie.Need-returns-3
 returns-3 c = laid-as (c .before .before .put-answer2 .ensures) (listed-said _ _ _ _ (c .before .before .before .before .before .before .before .before .before .before .before .args .numbers .now) (c .before .before .before .before .before .before .before .said3 .given .1) (c .before .before .before .front .ensures) (c .before .before .before .before .count-of .ensures))
 
--- src/lib.rt:79:1
 same-length-4 : tie.Need-same-length-4
 same-length-4 c = search needs
 
--- src/lib.rt:79:1
 returns-4 : tie.Need-returns-4
 returns-4 c = laid-as (c .before .before .refused .ensures) (ap (λ (s : Said). saidText s (c .before .before .before .before .before .before .before .before .args .numbers .now)) (sym (c .before .before .before .before .enum-told .given .1)))
 
