@@ -1,4 +1,5 @@
 pub mod Ends
 pub mod Texts
+pub mod Parts
 pub mod Held
 pub mod Laws

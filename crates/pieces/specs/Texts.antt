@@ -56,11 +56,11 @@ end-where a b l k e = by (isEnd a b) refl
     by true q = let f : some 0 ≡ some k = rw q at e in here q (cc)
     by false q = on q (firstEnd (b ∷ l)) refl (rw q at e)
 
-no-end-nil : (k : ℕ) → firstEnd [] ≡ some k → ⊥
+pub no-end-nil : (k : ℕ) → firstEnd [] ≡ some k → ⊥
 unfolding firstEnd
 no-end-nil k e = let z : _≡_ {A = ℕ} 0 1 = cc in omega arith
 
-no-end-one : (a k : ℕ) → firstEnd (a ∷ []) ≡ some k → ⊥
+pub no-end-one : (a k : ℕ) → firstEnd (a ∷ []) ≡ some k → ⊥
 unfolding firstEnd
 no-end-one a k e = let z : _≡_ {A = ℕ} 0 1 = cc in omega arith
 
