@@ -65,7 +65,7 @@ cells-more rs ns i h g e =
     rw (add-one i, take-suc-set ns i (getD (getD rs i []) 0 0) g, take-suc rs i [] h, e) (sym (cells-snoc (take i rs) (getD rs i [])))
 
 -- what was put at a buffer's front stands there
-front-put : {A : Type 0} (b l : List A) (n : ℕ) → n ≡ length l → length l ≤ length b → take n (sets b 0 l) ≡ l
+pub front-put : {A : Type 0} (b l : List A) (n : ℕ) → n ≡ length l → length l ≤ length b → take n (sets b 0 l) ≡ l
 front-put b l n e h = rw (sets-eq l b 0 (omega arith)) (take-at l (drop (0 + length l) b) n (sym e))
 
 module _ (m after : Mem base) (a : Answer) where

@@ -8,7 +8,7 @@ use native.Mathlib.Numerals.{add-one}
 use native.Mathlib.Omega.{arith}
 use lib.Dec.{eqb, ltb}
 use lib.ListN.{length, getD, take, drop, length-append, length-take, length-drop, take-append-drop}
-use lib.Seq.{take-suc, take-all, take-append-le, take-append-seam, take-take, drop-cons, getD-drop, drop-drop}
+use lib.Seq.{take-suc, take-all, take-append-le, take-append-seam, take-take, drop-cons, getD-drop, drop-drop, take-add}
 use borrow.Author.Tests.{ltb-true, ltb-false}
 use Rattle.pieces.specs.declared.Held.{Held}
 use Rattle.pieces.specs.declared.Next.{Next}
@@ -96,6 +96,17 @@ given-front q t f n h e k =
 abbrev pub between : List ℕ → ℕ → ℕ → List ℕ
 between s from i = take (i - from) (drop from s)
 
+pub between-none : (s : List ℕ) (a : ℕ) → between s a a ≡ []
+between-none s a = let z : a - a ≡ 0 = omega arith in ap (λ (k : ℕ). take k (drop a s)) z
+
+-- from a place to another, and on
+pub between-joins : (s : List ℕ) (a b c : ℕ) → a ≤ b → b ≤ c → between s a b ++ between s b c ≡ between s a c
+between-joins s a b c h g =
+    let e : a + (b - a) ≡ b = omega arith in
+    let f : b - a + (c - b) ≡ c - a = omega arith in
+    ap (λ (l : List ℕ). between s a b ++ take (c - b) l) (sym (drop-drop (b - a) a s ∙ ap (λ (k : ℕ). drop k s) e))
+    ∙ sym (take-add (b - a) (c - b) (drop a s)) ∙ ap (λ (k : ℕ). take k (drop a s)) f
+
 module _ (s : List ℕ) (from i : ℕ) (low : from ≤ i) where
   between-more : i < length s → between s from (i + 1) ≡ between s from i ++ (getD s i 0 ∷ [])
   between-more h =
@@ -149,6 +160,5 @@ module _ (s : List ℕ) (from i : ℕ) (low : from ≤ i) where
 
 pub holds-start : (s : List ℕ) (from : ℕ) (p f : List ℕ) (h : Held) → Holds p f h → Holds (p ++ between s from from) f h
 holds-start s from p f h x =
-    let z : from - from ≡ 0 = omega arith in
-    let e : p ≡ p ++ between s from from = sym (ap (λ (k : ℕ). p ++ take k (drop from s)) z ∙ append-nil p) in
+    let e : p ≡ p ++ between s from from = sym (ap (λ (l : List ℕ). p ++ l) (between-none s from) ∙ append-nil p) in
     rw e at x

@@ -1,7 +1,7 @@
-use Rattle.player.specs.Turns.{told-record, told-ended, told-more, told-holds, record-answers}
-use native.Mathlib.Omega.{arith}
+use mathlib.Core.Path.{refl, sym}
 use lib.Seq.{length-take-le}
-use mathlib.Core.Path.{refl, sym, _∙_}
+use native.Mathlib.Omega.{arith}
+use Rattle.player.specs.Turns.{told-record, told-ended, told-more, told-holds, record-answers}
 use borrow.Author.Needs.{needs}
 use Rattle.player.proofs.play_record.Statement.{statement}
 use Rattle.player.proofs.play_record.Tie as tie
@@ -9,26 +9,29 @@ use Rattle.player.proofs.play_record.Tie as tie
 next-record-requires : tie.Need-next-record-requires
 next-record-requires c κs = search needs
 
-enum-known-more : tie.Need-enum-known-more
-enum-known-more c = search needs
+enum-known-held : tie.Need-enum-known-held
+enum-known-held c = search needs
 
 enum-known-count : tie.Need-enum-known-count
 enum-known-count c = search needs
 
-slice-reshare-prefix-perform : tie.Need-slice-reshare-prefix-perform
-slice-reshare-prefix-perform c = told-record _ _ _ _ _ _ (c .before .count .given .1) (c .before .before .before .before .before .next-record .ensures .0) .0
+slice-reshare-prefix-text : tie.Need-slice-reshare-prefix-text
+slice-reshare-prefix-text c = told-record _ _ _ _ _ _ (c .before .count .given .1) (c .before .before .before .before .before .next-record .ensures .0) .0
 
-slice-aggregate-perform : tie.Need-slice-aggregate-perform
-slice-aggregate-perform c = sym (length-take-le _ _ (told-record _ _ _ _ _ _ (c .before .before .count .given .1) (c .before .before .before .before .before .before .next-record .ensures .0) .0))
+slice-aggregate-text : tie.Need-slice-aggregate-text
+slice-aggregate-text c = sym (length-take-le _ _ (told-record _ _ _ _ _ _ (c .before .before .count .given .1) (c .before .before .before .before .before .before .next-record .ensures .0) .0))
 
 perform-requires : tie.Need-perform-requires
 perform-requires c κs = search needs
+
+nothing-requires : tie.Need-nothing-requires
+nothing-requires c κs = search needs
 
 same-length : tie.Need-same-length
 same-length c = search needs
 
 returns : tie.Need-returns
-returns c = (told-more _ _ _ _ _ (c .before .more .given .1) (c .before .before .before .before .before .next-record .ensures .0), λ p x. record { holds = told-holds _ _ _ _ _ _ (c .before .more .given .1) ((c .before .before .before .before .before .next-record .ensures .1 .1) p x); memory = refl; output = refl })
+returns c = ((record { sane = told-more _ _ _ _ _ (c .before .held .given .1) (c .before .before .before .before .before .next-record .ensures .0); within = omega arith; put = omega (arith, c .before .before .before .before .before .before .before .before .before .before .before .before .before .pre .has-room) }, refl), λ p x. record { holds = told-holds _ _ _ _ _ _ (c .before .held .given .1) (c .before .before .before .before .before .next-record .ensures .1 .1 p x); memory = refl; output = refl; place = refl })
 
 same-length-2 : tie.Need-same-length-2
 same-length-2 c = search needs
@@ -55,18 +58,21 @@ same-length-9 : tie.Need-same-length-9
 same-length-9 c = search needs
 
 returns-2 : tie.Need-returns-2
-returns-2 c = ((told-record _ _ _ _ _ _ (c .before .before .before .before .before .before .before .before .before .before .before .before .before .before .before .before .before .before .before .before .before .count .given .1) (c .before .before .before .before .before .before .before .before .before .before .before .before .before .before .before .before .before .before .before .before .before .before .before .before .before .next-record .ensures .0) .1 .0, (told-record _ _ _ _ _ _ (c .before .before .before .before .before .before .before .before .before .before .before .before .before .before .before .before .before .before .before .before .before .count .given .1) (c .before .before .before .before .before .before .before .before .before .before .before .before .before .before .before .before .before .before .before .before .before .before .before .before .before .next-record .ensures .0) .1 .1, c .before .before .before .before .before .before .before .before .before .before .before .perform .ensures .0)), λ p x. record-answers _ _ _ _ _ _ _ p _ _ _ _ _ _ (omega (arith, c .before .before .before .before .before .before .before .before .before .before .before .before .before .before .before .before .before .before .before .before .before .before .before .before .before .before .before .before .before .before .before .before .before .pre .0 .1, c .before .before .before .before .before .before .before .before .before .before .before .before .before .before .before .before .before .before .before .before .before .before .before .before .before .next-record .ensures .1 .0)) refl (told-ended _ _ _ _ _ _ _ (c .before .before .before .before .before .before .before .before .before .before .before .before .before .before .before .before .before .before .before .before .before .count .given .1) ((c .before .before .before .before .before .before .before .before .before .before .before .before .before .before .before .before .before .before .before .before .before .before .before .before .before .next-record .ensures .1 .1) p x)) (c .before .before .before .before .before .before .before .before .before .before .before .perform .ensures .1 .0) (c .before .before .before .before .before .before .before .before .before .before .before .perform .ensures .1 .1))
+returns-2 c = let w = told-record _ _ _ _ _ _ (c .before .before .before .before .before .before .before .before .before .before .before .before .before .before .before .before .before .before .before .before .before .before .count .given .1) (c .before .before .before .before .before .before .before .before .before .before .before .before .before .before .before .before .before .before .before .before .before .before .before .before .before .before .next-record .ensures .0) in
+    let l = c .before .before .before .before .before .before .before .before .before .before .before .before .before .before .before .before .before .before .before .before .before .before .before .before .before .before .next-record .ensures .1 .0 in
+    ((record { sane = c .nothing .ensures .0 _ (omega (arith, c .before .before .before .before .before .before .before .before .before .before .before .before .before .before .before .before .before .before .before .before .before .before .before .before .before .before .before .before .before .before .before .before .before .before .pre .record-kept, l)); within = w .1 .1; put = c .before .before .before .before .before .before .before .before .before .before .before .before .perform .ensures .0 }, w .1 .0), λ p x. record-answers _ _ _ _ _ _ _ p _ _ _ _ _ _ _ (omega (arith, c .before .before .before .before .before .before .before .before .before .before .before .before .before .before .before .before .before .before .before .before .before .before .before .before .before .before .before .before .before .before .before .before .before .before .pre .record-kept, l)) refl (told-ended _ _ _ _ _ _ _ (c .before .before .before .before .before .before .before .before .before .before .before .before .before .before .before .before .before .before .before .before .before .before .count .given .1) (c .before .before .before .before .before .before .before .before .before .before .before .before .before .before .before .before .before .before .before .before .before .before .before .before .before .before .next-record .ensures .1 .1 p x)) (c .nothing .ensures .1 _) (c .before .before .before .before .before .before .before .before .before .before .before .before .perform .ensures .1 .0) (c .before .before .before .before .before .before .before .before .before .before .before .before .perform .ensures .1 .1))
 
 pub play-record-spec : {M : Type 1} → statement M
 play-record-spec =
     tie.close
     (tie.spec
     next-record-requires
-    enum-known-more
+    enum-known-held
     enum-known-count
-    slice-reshare-prefix-perform
-    slice-aggregate-perform
+    slice-reshare-prefix-text
+    slice-aggregate-text
     perform-requires
+    nothing-requires
     same-length
     returns
     same-length-2
