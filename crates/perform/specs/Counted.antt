@@ -1,8 +1,8 @@
 -- The list of an accepted vacuum or lookup has as many members as the answer says, and has room in the buffer.
-use Prim.Native.Nat.{ℕ, suc, _+_, _<_, _≤_}
-use mathlib.Core.Bool.{Bool, true, false, not, _||_, cond}
+use Prim.Native.Nat.{ℕ, suc, _+_, _≤_}
+use mathlib.Core.Bool.{Bool, true, false, cond}
 use mathlib.Core.List.{List, [], _∷_, _++_}
-use mathlib.Core.Path.{_≡_, refl, sym, ap, _∙_}
+use mathlib.Core.Path.{_≡_, refl, sym, ap}
 use native.Mathlib.Omega.{arith}
 use lib.Dec.{ltb, leb}
 use lib.ListN.{length, length-append}
@@ -12,15 +12,15 @@ use Rattle.words.specs.Sizes.{Sizes}
 use Rattle.rules.specs.Numbers.{resultFull}
 use Rattle.words.specs.Lists.{keep, fold, from}
 use Rattle.kinds.specs.Versions.{versionAt}
-use Rattle.words.specs.Slots.{Rec, Slot, addRecs}
-use Rattle.rules.specs.Memory.{Mem, sizeN, sizeR, headAt, slotAt, wordsAt, withSlot}
+use Rattle.words.specs.Slots.{Rec, Slot}
+use Rattle.rules.specs.Memory.{Mem, sizeN, sizeR, headAt, slotAt}
 use Rattle.rules.specs.Chain.{After, ends, goesOn, broken, chain}
 use Rattle.rules.specs.Snapshot.{horizon}
-use Rattle.rules.specs.Outcome.{Outcome, out, Test, test, guard, refuse, storeTests, slotTests, rowTest}
+use Rattle.rules.specs.Outcome.{Outcome, Test, test, guard, refuse, storeTests, slotTests, rowTest}
 use Rattle.rules.specs.Read.{Sight, blocked, sees, answerAt, readAt}
 use Rattle.rules.specs.Vacuum.{reports, swept, vacuumNow, vacuumOut}
 use Rattle.kinds.specs.Versions.{reclaimable}
-use Rattle.rules.specs.Lookup.{Found, stopped, got, isKey, listRow, findRow, find, lookupEnd, lookupAllOut}
+use Rattle.rules.specs.Lookup.{Found, stopped, got, isKey, listRow, findRow, lookupEnd, lookupAllOut}
 use Rattle.perform.specs.Perform.{countOf}
 
 pub record Counted {z : Sizes} {B : Type 0} (room : ℕ) (o : Outcome z Answer B) : Type 0 where

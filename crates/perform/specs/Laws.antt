@@ -1,7 +1,7 @@
 -- From what a public call answers to what a record does.
 use Prim.Native.Nat.{ℕ, _+_, _*_, _<_, _≤_}
 use mathlib.Core.List.{List, [], _∷_, _++_, append-nil, append-assoc}
-use mathlib.Core.Option.{Option, none, some}
+use mathlib.Core.Option.{none, some}
 use mathlib.Core.Path.{_≡_, refl, sym, ap, _∙_}
 use native.Mathlib.Numerals.{add-one}
 use native.Mathlib.Omega.{arith}
@@ -12,7 +12,7 @@ use Rattle.kinds.specs.declared.Answer.{Answer}
 use Rattle.words.specs.Sizes.{base}
 use Rattle.rules.specs.Memory.{Mem}
 use Rattle.rules.specs.Outcome.{Outcome, out}
-use Rattle.rules.specs.Run.{Call, create, begin, read, write, commit, abort, vacuum, lookupAll, step}
+use Rattle.rules.specs.Run.{step}
 use Rattle.rules.specs.Create.{createOut}
 use Rattle.rules.specs.Begin.{beginOut}
 use Rattle.rules.specs.Read.{readOut}
@@ -28,7 +28,7 @@ use Rattle.answers.specs.Answers.{fields, answer, crlf, room, wOk, wNone, wEmpt
 use Rattle.answers.specs.Laws.{list-fits}
 use Rattle.perform.specs.declared.Said.{Said}
 use Rattle.perform.specs.Perform.{Rooms, readText, answerText, countOf, cellsOf, saidText, performed, replayed, memoryAfter}
-use Rattle.perform.specs.Counted.{Counted, vacuum-counted, lookup-all-counted}
+use Rattle.perform.specs.Counted.{vacuum-counted, lookup-all-counted}
 
 abbrev pub rooms : ℕ → ℕ → Rooms
 rooms a b = record { reports = a; results = b }

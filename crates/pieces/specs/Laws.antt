@@ -2,17 +2,16 @@
 use Prim.Native.Nat.{ℕ, suc, _+_, _-_, _<_, _≤_, min}
 use mathlib.Core.Bool.{Bool, true, false, _&&_, cond}
 use mathlib.Core.List.{List, [], _∷_, _++_, append-nil, append-assoc}
-use mathlib.Core.Option.{Option, none, some}
+use mathlib.Core.Option.{none, some}
 use mathlib.Core.Path.{_≡_, refl, sym, ap, _∙_}
 use native.Mathlib.Numerals.{add-one}
 use native.Mathlib.Omega.{arith}
 use lib.Dec.{eqb, ltb}
 use lib.ListN.{length, getD, take, drop, length-append, length-take, length-drop, take-append-drop}
-use lib.Seq.{take-suc, take-all, take-append-le, take-append-seam, take-take, drop-cons, getD-drop, drop-drop, take-add}
+use lib.Seq.{take-suc, take-all, take-append-le, take-take, drop-cons, getD-drop, drop-drop, take-add}
 use borrow.Author.Tests.{ltb-true, ltb-false}
 use Rattle.pieces.specs.declared.Held.{Held}
-use Rattle.pieces.specs.declared.Next.{Next}
-use Rattle.pieces.specs.Ends.{isEnd, further, firstEnd}
+use Rattle.pieces.specs.Ends.{further, firstEnd}
 use Rattle.pieces.specs.Texts.{one-further, no-end-further, first-end-stays}
 use Rattle.pieces.specs.Held.{endsCr, Sane, Holds, Ended, Put}
 

@@ -1,6 +1,6 @@
 -- A text as the records whose end has come, and what stands behind the last end.
 use Prim.Native.Nat.{ℕ, zero, suc, _≤_}
-use mathlib.Core.Bool.{Bool, true, false, cond}
+use mathlib.Core.Bool.{cond}
 use mathlib.Core.List.{List, [], _∷_, _++_}
 use mathlib.Core.Option.{Option, none, some}
 use mathlib.Core.Path.{_≡_, refl, sym, ap, _∙_}
@@ -8,7 +8,7 @@ use native.Mathlib.Omega.{arith}
 use lib.ListN.{length, take, drop, length-take, length-drop}
 use lib.Seq.{take-take, drop-nil, drop-append-le, take-append-le}
 use Rattle.pieces.specs.Ends.{isEnd, further, firstEnd}
-use Rattle.pieces.specs.Texts.{records, Where, here, later, end-where, one-further, no-end-further, no-end-nil, no-end-one, first-end-first-record, first-end-stays, end-within}
+use Rattle.pieces.specs.Texts.{records, Where, here, later, end-where, no-end-further, no-end-nil, no-end-one, first-end-first-record, first-end-stays, end-within}
 
 pub record Parts : Type 0 where
   pub closed : List (List ℕ)

@@ -1,8 +1,8 @@
 -- Many records: what a batch of them promises, and that batches go on from each other.
 use Prim.Native.Nat.{ℕ, suc, _+_, _-_, _<_, _≤_}
 use mathlib.Core.List.{List, [], _∷_, _++_, append-nil, append-assoc}
-use mathlib.Core.Option.{Option, none, some}
-use mathlib.Core.Path.{_≡_, refl, sym, ap, _∙_}
+use mathlib.Core.Option.{none}
+use mathlib.Core.Path.{_≡_, sym, ap, _∙_}
 use native.Mathlib.Omega.{arith}
 use lib.ListN.{length, take, drop}
 use lib.Seq.{take-append-add}
@@ -11,9 +11,8 @@ use Rattle.answers.specs.Laws.{laid-as, laid-none, laid-then}
 use Rattle.words.specs.Sizes.{base}
 use Rattle.rules.specs.Memory.{Mem}
 use Rattle.pieces.specs.declared.Held.{Held}
-use Rattle.pieces.specs.Ends.{firstEnd}
 use Rattle.pieces.specs.Parts.{Parts, parts, behind, no-end-no-part, parts-go-on, up-to-the-end}
-use Rattle.pieces.specs.Held.{Sane, Holds}
+use Rattle.pieces.specs.Held.{Holds}
 use Rattle.pieces.specs.Laws.{between, between-none, between-joins, between-all}
 use Rattle.perform.specs.Perform.{Rooms, replayed, memoryAfter}
 use Rattle.perform.specs.Laws.{replayed-both, memory-after-both}

@@ -2,3 +2,4 @@ pub mod Sizes
 pub mod Turns
 pub mod Batches
 pub mod Runs
+pub mod OneRun

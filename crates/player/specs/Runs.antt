@@ -1,7 +1,7 @@
 -- A run of the replay program on a text: batches that go on from each other, and the last record.
-use Prim.Native.Nat.{ℕ, _≤_, _<_}
+use Prim.Native.Nat.{ℕ, _≤_}
 use mathlib.Core.List.{List, [], _∷_, _++_, append-nil, append-assoc}
-use mathlib.Core.Path.{_≡_, refl, sym, ap, _∙_}
+use mathlib.Core.Path.{_≡_, sym, ap, _∙_}
 use native.Mathlib.Omega.{arith}
 use lib.ListN.{length, take}
 use Rattle.digits.specs.Numbers.{Laid}
@@ -15,7 +15,7 @@ use Rattle.pieces.specs.Parts.{parts, records-go-on}
 use Rattle.perform.specs.Perform.{Rooms, replayed, memoryAfter}
 use Rattle.perform.specs.Laws.{front-put, replayed-both, memory-after-both}
 use Rattle.player.specs.Turns.{Answered}
-use Rattle.player.specs.Batches.{Taken, Batched}
+use Rattle.player.specs.Batches.{Batched}
 
 -- what the contract of `play_batch` promises of a batch that starts at the output's front
 abbrev pub BatchPromise : Rooms → List ℕ → Held → List ℕ → List ℕ → Held → Mem base → Mem base → List ℕ → List ℕ → ℕ → Type 0
@@ -28,9 +28,9 @@ RestPromise z front h m after before out at = (p : List ℕ) → Holds p front h
 -- a run: what is held before it, the parts of the text that the batches took, the memory before and after, and what stood at the output's
 -- front after each batch and after the last record
 pub data Run (z : Rooms) : List ℕ → Held → List (List ℕ) → Mem base → Mem base → List (List ℕ) → Type 0 where
-  batch : {front front' s before out : List ℕ} {h h' : Held} {m k after : Mem base} {at : ℕ} {ss outs : List (List ℕ)}
+  a-batch : {front front' s before out : List ℕ} {h h' : Held} {m k after : Mem base} {at : ℕ} {ss outs : List (List ℕ)}
       → BatchPromise z front h s front' h' m k before out at → at ≤ length out → Run z front' h' ss k after outs → Run z front h (s ∷ ss) m after (take at out ∷ outs)
-  last : {front before out : List ℕ} {h : Held} {m after : Mem base} {at : ℕ}
+  the-rest : {front before out : List ℕ} {h : Held} {m after : Mem base} {at : ℕ}
       → RestPromise z front h m after before out at → at ≤ length out → Run z front h [] m after (take at out ∷ [])
 
 -- the output of a text, and the memory after it
@@ -47,7 +47,7 @@ front-of {before} {out} {w} {at} x h =
 -- p has come since the last end
 played : (z : Rooms) (p : List ℕ) {front : List ℕ} {h : Held} {ss outs : List (List ℕ)} {m after : Mem base}
     → Holds p front h → Run z front h ss m after outs → Played z (p ++ joined ss) m after outs
-played z p x (batch {front} {front'} {s} {before} {out} {h} {h'} {m} {k} {after} {at} {ss} {outs} b l r) =
+played z p x (a-batch {front} {front'} {s} {before} {out} {h} {h'} {m} {k} {after} {at} {ss} {outs} b l r) =
     let w = b p x in
     let i = played z (parts (p ++ s) .rest) (w .taken .holds) r in
     let e : records (p ++ (s ++ joined ss)) ≡ parts (p ++ s) .closed ++ records (parts (p ++ s) .rest ++ joined ss) =
@@ -59,7 +59,7 @@ played z p x (batch {front} {front'} {s} {before} {out} {h} {h'} {m} {k} {after}
       memory = i .memory ∙ ap (memoryAfter z (records (parts (p ++ s) .rest ++ joined ss))) (w .taken .memory)
           ∙ sym (memory-after-both z (parts (p ++ s) .closed) (records (parts (p ++ s) .rest ++ joined ss)) m) ∙ ap (λ (l : List (List ℕ)). memoryAfter z l m) (sym e);
     }
-played z p x (last {front} {before} {out} {h} {m} {after} {at} b l) =
+played z p x (the-rest {front} {before} {out} {h} {m} {after} {at} b l) =
     let w = b p x in
     let e : p ≡ p ++ [] = sym (append-nil p) in
     record {

@@ -1,6 +1,6 @@
 use Rattle.perform.specs.Perform.{answerText}
 use Rattle.kinds.specs.declared.Answer.{Answer}
-use mathlib.Core.Path.{sym, ap, _∙_}
+use mathlib.Core.Path.{sym, ap}
 use Rattle.answers.specs.Laws.{laid-as}
 use borrow.Author.Needs.{needs}
 use Rattle.perform.proofs.put_answer.Statement.{statement}

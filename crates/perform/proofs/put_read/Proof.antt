@@ -1,5 +1,5 @@
 use Rattle.perform.specs.Perform.{readText}
-use mathlib.Core.Path.{sym, ap, _∙_}
+use mathlib.Core.Path.{sym, ap}
 use Rattle.answers.specs.Laws.{laid-as}
 use borrow.Author.Needs.{needs}
 use Rattle.perform.proofs.put_read.Statement.{statement}
