@@ -3,6 +3,7 @@ use Prim.Native.Nat.{ℕ, _+_, _*_, _<_, _≤_}
 use mathlib.Core.List.{List, [], _∷_, _++_, append-nil, append-assoc}
 use mathlib.Core.Option.{none, some}
 use mathlib.Core.Path.{_≡_, refl, sym, ap, _∙_}
+use denote.Ref.{now}
 use native.Mathlib.Numerals.{add-one}
 use native.Mathlib.Omega.{arith}
 use lib.ListN.{length, getD, take, drop, set, length-take, length-append}
@@ -11,6 +12,7 @@ use Rattle.kinds.specs.declared.ReadAnswer.{ReadAnswer}
 use Rattle.kinds.specs.declared.Answer.{Answer}
 use Rattle.words.specs.Sizes.{base}
 use Rattle.rules.specs.Memory.{Mem}
+use Rattle.rules.specs.Lent.{Words, Arrays}
 use Rattle.rules.specs.Outcome.{Outcome, out}
 use Rattle.rules.specs.Run.{step}
 use Rattle.rules.specs.Create.{createOut}
@@ -32,6 +34,10 @@ use Rattle.perform.specs.Counted.{vacuum-counted, lookup-all-counted}
 
 abbrev pub rooms : ℕ → ℕ → Rooms
 rooms a b = record { reports = a; results = b }
+
+-- of the lent buffers
+abbrev pub roomsIn : Arrays → Words → Rooms
+roomsIn reports numbers = rooms (length (now (reports .entry))) (length (now (numbers .entry)))
 
 -- the line is what the rules' call says, and so is the memory after it
 pub record Acted (z : Rooms) (l : Line) (m after : Mem base) (s : Said) (numbers : List ℕ) : Type 0 where

@@ -13,12 +13,11 @@ ghost use mathlib.Core.Path.{_≡_};
 ghost use Prim.Native.Nat.{ℕ, _+_, _≤_};
 ghost use lib.ListN.{length, take};
 ghost use Rattle.rules.specs.Lent.{memIn, memOut};
-ghost use Rattle.rules.specs.Vacuum.{vacuumOut};
 ghost use Rattle.digits.specs.Numbers.{Laid};
 ghost use Rattle.lines.specs.Lines.{meaning};
 ghost use Rattle.answers.specs.Answers.{room};
 ghost use Rattle.perform.specs.Perform.{readText, answerText, countOf, cellsOf, saidText, performed};
-ghost use Rattle.perform.specs.Laws.{Told, Acted, Plain, rooms};
+ghost use Rattle.perform.specs.Laws.{Acted, Plain, rooms, roomsIn};
 
 // What a call came to. The rows or the cells that `Listed` counts stand at the front of a buffer.
 pub enum Said {
@@ -113,14 +112,13 @@ fn sweep(
     request: u64,
     reports: &mut [[u64; 3]],
     numbers: &mut [u64],
-) -> Answer
+) -> Said
     requires { ⌜ length (now reports) ≤ length (now numbers) ⌝ }
-    ensures { λ a. ⌜ Told (vacuumOut (memIn meta rows cells slots) row request (length (now (reports .entry))))
-        (cellsOf (vacuumOut (memIn meta rows cells slots) row request (length (now (reports .entry))) .front)) a (memOut meta rows cells slots) (now (numbers .exit)) ⌝ }
+    ensures { λ s. ⌜ Acted (roomsIn reports numbers) (Line.Vacuum row request) (memIn meta rows cells slots) (memOut meta rows cells slots) s (now (numbers .exit)) ⌝ }
 {
     let a = store::vacuum(meta, rows, cells, slots, row, request, reports);
     copy_cells(reports, numbers, count_of(a));
-    a
+    Said::Listed(a)
 }
 
 // A read.
@@ -198,7 +196,7 @@ fn act(
     numbers: &mut [u64],
 ) -> Said
     requires { ⌜ length (now reports) ≤ length (now numbers) ⌝ }
-    ensures { λ s. ⌜ Acted (rooms (length (now (reports .entry))) (length (now (numbers .entry)))) line (memIn meta rows cells slots) (memOut meta rows cells slots) s (now (numbers .exit)) ⌝ }
+    ensures { λ s. ⌜ Acted (roomsIn reports numbers) line (memIn meta rows cells slots) (memOut meta rows cells slots) s (now (numbers .exit)) ⌝ }
 {
     match line {
         Line::Store { n, r } => Said::Gave(store::create(meta, rows, cells, slots, n, r)),
@@ -208,7 +206,7 @@ fn act(
         Line::Delete { slot, id, row } => erase(meta, rows, cells, slots, slot, id, row),
         Line::Commit { slot, id } => Said::Gave(commit(meta, rows, cells, slots, slot, TxId(id))),
         Line::Abort { slot, id } => Said::Gave(abort(meta, rows, cells, slots, slot, TxId(id))),
-        Line::Vacuum { row, request } => Said::Listed(sweep(
+        Line::Vacuum { row, request } => sweep(
             meta,
             rows,
             cells,
@@ -217,7 +215,7 @@ fn act(
             request,
             reports,
             numbers,
-        )),
+        ),
         Line::Find { slot, id, key } => find(meta, rows, cells, slots, slot, id, key, numbers),
         Line::Other => Said::Other,
     }
@@ -239,9 +237,9 @@ pub fn perform(
     requires { ⌜ at + room (2 + length (now numbers)) ≤ length (now out) ⌝ }
     ensures { λ r. ⌜ r ≤ length (now (out .exit)) ⌝ }
     ensures { λ r. ⌜ Laid (now (out .entry)) (now (out .exit)) at r
-        (performed (rooms (length (now (reports .entry))) (length (now (numbers .entry)))) (meaning (now (text .entry))) (memIn meta rows cells slots) .line) ⌝ }
+        (performed (roomsIn reports numbers) (meaning (now (text .entry))) (memIn meta rows cells slots) .line) ⌝ }
     ensures { λ _. ⌜ memOut meta rows cells slots
-        ≡ performed (rooms (length (now (reports .entry))) (length (now (numbers .entry)))) (meaning (now (text .entry))) (memIn meta rows cells slots) .after ⌝ }
+        ≡ performed (roomsIn reports numbers) (meaning (now (text .entry))) (memIn meta rows cells slots) .after ⌝ }
 {
     let line = lines::parse_line(text);
     let said = act(line, meta, rows, cells, slots, reports, numbers);

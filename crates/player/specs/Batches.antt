@@ -18,6 +18,7 @@ use Rattle.perform.specs.Perform.{Rooms, replayed, memoryAfter}
 use Rattle.perform.specs.Laws.{replayed-both, memory-after-both}
 use Rattle.player.specs.declared.Place.{Place}
 use Rattle.player.specs.declared.Turn.{Turn}
+use Rattle.player.specs.Sizes.{longestAnswer}
 use Rattle.player.specs.Turns.{Answered, Ends, Waits, Turned, Stands, Placed}
 
 -- p had come since the last end, and then s: the memory is that of the records that ended, and what stands behind the last end is held
@@ -30,11 +31,13 @@ pub record Batched (z : Rooms) (p s front : List ℕ) (h : Held) (m after : Mem 
   pub taken : Taken z p s front h m after
   pub lines : Laid before out at next (replayed z (parts (p ++ s) .closed) m)
 
--- a batch stands further in the piece than it started, unless it started at its end
+-- a batch stands further in the piece than it started, unless it started at its end; and before the piece's end it stops only where the
+-- longest answer has no room
 pub record Moved (piece front out : ℕ) (start x : Place) : Type 0 where
   pub stands : Stands piece front out x
   pub forward : start .from ≤ x .from
   pub further : start .from < piece → start .from < x .from
+  pub full : x .from < piece → out < x .at + longestAnswer
 
 -- ---- one after the other
 

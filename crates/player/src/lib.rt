@@ -15,7 +15,7 @@ ghost use Rattle.rules.specs.Lent.{memIn, memOut};
 ghost use Rattle.pieces.specs.Held.{Sane, Holds};
 ghost use Rattle.pieces.specs.Laws.{between};
 ghost use Rattle.pieces.specs.Texts.{records};
-ghost use Rattle.perform.specs.Laws.{rooms};
+ghost use Rattle.perform.specs.Laws.{roomsIn};
 ghost use Rattle.player.specs.Sizes.{Lent, longestAnswer};
 ghost use Rattle.player.specs.Turns.{Ready, Answered, Turned, Stands, Placed};
 ghost use Rattle.player.specs.Batches.{Taken, Batched, Moved};
@@ -60,7 +60,7 @@ fn play_record(
     requires { ⌜ Ready (length (now piece)) (length (now front)) (length (now reports)) (length (now numbers)) (length (now out)) place ⌝ }
     ensures { λ r. ⌜ Placed (length (now (piece .entry))) (length (now (front .exit))) (length (now (out .exit))) place r ⌝ }
     ensures { λ r. ⌜ ((p : List ℕ) → Holds p (now (front .entry)) (place .held)
-        → Turned (rooms (length (now (reports .entry))) (length (now (numbers .entry)))) p (drop (place .from) (now (piece .entry))) place (now (front .exit)) (memIn meta rows cells slots) (memOut meta rows cells slots) (now (out .entry)) (now (out .exit)) r) ⌝ }
+        → Turned (roomsIn reports numbers) p (drop (place .from) (now (piece .entry))) place (now (front .exit)) (memIn meta rows cells slots) (memOut meta rows cells slots) (now (out .entry)) (now (out .exit)) r) ⌝ }
 {
     let at = place.at;
     match pieces::next_record(front, place.held, piece, place.from) {
@@ -98,7 +98,7 @@ fn play_batch(
     requires { ⌜ (Stands (length (now piece)) (length (now front)) (length (now out)) start) × (start .at + longestAnswer ≤ length (now out)) ⌝ }
     ensures { λ r. ⌜ Moved (length (now (piece .entry))) (length (now (front .exit))) (length (now (out .exit))) start r ⌝ }
     ensures { λ r. ⌜ ((p : List ℕ) → Holds p (now (front .entry)) (start .held)
-        → Batched (rooms (length (now (reports .entry))) (length (now (numbers .entry)))) p (between (now (piece .entry)) (start .from) (r .from)) (now (front .exit)) (r .held) (memIn meta rows cells slots) (memOut meta rows cells slots) (now (out .entry)) (now (out .exit)) (start .at) (r .at)) ⌝ }
+        → Batched (roomsIn reports numbers) p (between (now (piece .entry)) (start .from) (r .from)) (now (front .exit)) (r .held) (memIn meta rows cells slots) (memOut meta rows cells slots) (now (out .entry)) (now (out .exit)) (start .at) (r .at)) ⌝ }
 {
     let mut place = start;
     let last = out.len() - ANSWER;
@@ -149,7 +149,7 @@ fn play_piece(
     requires { ⌜ Lent (length (now front)) (length (now reports)) (length (now numbers)) (length (now out)) ⌝ }
     requires { ⌜ Sane (length (now front)) held ⌝ }
     ensures { λ r. ⌜ Sane (length (now (front .entry))) r ⌝ }
-    ensures { λ r. ⌜ ((p : List ℕ) → Holds p (now (front .entry)) held → Taken (rooms (length (now (reports .entry))) (length (now (numbers .entry)))) p (now (piece .entry)) (now (front .exit)) r (memIn meta rows cells slots) (memOut meta rows cells slots)) ⌝ }
+    ensures { λ r. ⌜ ((p : List ℕ) → Holds p (now (front .entry)) held → Taken (roomsIn reports numbers) p (now (piece .entry)) (now (front .exit)) r (memIn meta rows cells slots) (memOut meta rows cells slots)) ⌝ }
 {
     let mut place = first_place(held);
     while place.from < piece.len() {
@@ -187,7 +187,7 @@ fn answer_rest(
     requires { ⌜ Lent (length (now front)) (length (now reports)) (length (now numbers)) (length (now out)) ⌝ }
     requires { ⌜ Sane (length (now front)) held ⌝ }
     ensures { λ r. ⌜ r ≤ length (now (out .exit)) ⌝ }
-    ensures { λ r. ⌜ ((p : List ℕ) → Holds p (now (front .entry)) held → Answered (rooms (length (now (reports .entry))) (length (now (numbers .entry)))) (records p) (memIn meta rows cells slots) (memOut meta rows cells slots) (now (out .entry)) (now (out .exit)) 0 r) ⌝ }
+    ensures { λ r. ⌜ ((p : List ℕ) → Holds p (now (front .entry)) held → Answered (roomsIn reports numbers) (records p) (memIn meta rows cells slots) (memOut meta rows cells slots) (now (out .entry)) (now (out .exit)) 0 r) ⌝ }
 {
     let count = held.count;
     if count == 0 {

@@ -1,5 +1,5 @@
 use mathlib.Core.Path.{refl}
-use Rattle.perform.specs.Laws.{acted-as, store-acted, begin-acted, commit-acted, abort-acted, vacuum-acted, other-acted}
+use Rattle.perform.specs.Laws.{acted-as, store-acted, begin-acted, commit-acted, abort-acted, other-acted}
 use borrow.Author.Needs.{needs}
 use Rattle.perform.proofs.act.Statement.{statement}
 use Rattle.perform.proofs.act.Tie as tie
@@ -185,7 +185,7 @@ same-length-34 : tie.Need-same-length-34
 same-length-34 c = search needs
 
 returns-8 : tie.Need-returns-8
-returns-8 c = acted-as (c .before .before .before .before .before .before .before .before .before .before .before .before .before .before .line7 .given .1) (vacuum-acted _ _ _ _ _ _ _ (c .before .before .before .before .before .before .sweep .ensures))
+returns-8 c = acted-as (c .before .before .before .before .before .before .before .before .before .before .before .before .before .before .line7 .given .1) (c .before .before .before .before .before .before .sweep .ensures)
 
 same-length-35 : tie.Need-same-length-35
 same-length-35 c = search needs

@@ -1,4 +1,4 @@
-use Rattle.perform.specs.Laws.{swept-fits, swept-told}
+use Rattle.perform.specs.Laws.{swept-fits, swept-told, vacuum-acted}
 use borrow.Author.Needs.{needs}
 use Rattle.perform.proofs.sweep.Statement.{statement}
 use Rattle.perform.proofs.sweep.Tie as tie
@@ -25,7 +25,7 @@ same-length-4 : tie.Need-same-length-4
 same-length-4 c = search needs
 
 returns : tie.Need-returns
-returns c = swept-told _ _ _ _ _ (c .before .before .before .before .before .before .before .before .before .before .before .before .before .before .before .before .before .args .reports .now) (c .before .before .before .before .before .before .before .before .before .before .vacuum .ensures .0) _ _ _ (c .before .before .before .before .before .before .before .before .before .before .vacuum .ensures .1) (c .before .before .before .count-of .ensures) (c .before .before .copy-cells .ensures)
+returns c = vacuum-acted _ _ _ _ _ _ _ (swept-told _ _ _ _ _ (c .before .before .before .before .before .before .before .before .before .before .before .before .before .before .before .before .before .args .reports .now) (c .before .before .before .before .before .before .before .before .before .before .vacuum .ensures .0) _ _ _ (c .before .before .before .before .before .before .before .before .before .before .vacuum .ensures .1) (c .before .before .before .count-of .ensures) (c .before .before .copy-cells .ensures))
 
 pub sweep-spec : {M : Type 1} → statement M
 sweep-spec =
