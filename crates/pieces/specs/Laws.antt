@@ -114,7 +114,7 @@ module _ (s : List ℕ) (from i : ℕ) (low : from ≤ i) where
       let f : from + (i - from) ≡ i = omega arith in
       rw (e, take-suc (drop from s) (i - from) 0 g, getD-drop from s (i - from) 0, f)
 
-  between-rest : between s from i ++ drop i s ≡ drop from s
+  pub between-rest : between s from i ++ drop i s ≡ drop from s
   between-rest =
       let f : from + (i - from) ≡ i = omega arith in
       ap (λ (l : List ℕ). between s from i ++ l) (sym (drop-drop (i - from) from s ∙ ap (λ (k : ℕ). drop k s) f)) ∙ take-append-drop (i - from) (drop from s)

@@ -116,14 +116,14 @@ first-end-taken (a ∷ b ∷ l) k e = by (first-end-taken (b ∷ l)) (end-where 
     by r (here q z) = rw (z, q)
     by r (later j q z f) = rw (z, q) (ap further (r j f))
 
+pub drop-all : (l : List ℕ) (n : ℕ) → length l ≤ n → drop n l ≡ []
+drop-all [] n h = drop-nil n
+drop-all (a ∷ l) zero h = absurd (omega arith)
+drop-all (a ∷ l) (suc n) h = drop-all l n (omega arith)
+
 -- it is one record, and nothing is left
 pub up-to-the-end : (t : List ℕ) (k : ℕ) → firstEnd t ≡ some k → parts (take (suc (suc k)) t) ≡ record { closed = take k t ∷ []; rest = [] }
 unfolding parts
 up-to-the-end t k e =
     first-end-first-part (take (suc (suc k)) t) k (first-end-taken t k e)
-    ∙ rw (take-take k (suc (suc k)) t (omega arith), drop-end (take (suc (suc k)) t) (suc (suc k)) (rw (length-take (suc (suc k)) t) (omega arith)))
-  where
-    drop-end : (l : List ℕ) (n : ℕ) → length l ≤ n → drop n l ≡ []
-    drop-end [] n h = drop-nil n
-    drop-end (a ∷ l) zero h = absurd (omega arith)
-    drop-end (a ∷ l) (suc n) h = drop-end l n (omega arith)
+    ∙ rw (take-take k (suc (suc k)) t (omega arith), drop-all (take (suc (suc k)) t) (suc (suc k)) (rw (length-take (suc (suc k)) t) (omega arith)))

@@ -25,7 +25,7 @@ use Rattle.pieces.specs.Texts.{records}
 use Rattle.pieces.specs.Parts.{parts}
 use Rattle.perform.specs.Perform.{Rooms, performed, replayed, memoryAfter}
 use Rattle.perform.specs.Laws.{rooms}
-use Rattle.player.specs.Runs.{BatchPromise, RestPromise, Run, a-batch, the-rest, batches-answer-the-whole-text}
+use Rattle.player.specs.Runs.{a-part, no-more, Cut, a-piece, no-piece, BatchPromise, RestPromise, Run, a-batch, the-rest, batches-answer-the-whole-text}
 
 -- where the buffer is longer than what is held, that is what has come
 held-is : (p front : List ℕ) (h : Held) → Holds p front h → h .count < length front → p ≡ take (h .count) front
@@ -88,14 +88,21 @@ begin-is-last : RestPromise one beginFront (held 5 false) afterStore (memoryAfte
 unfolding records replayed memoryAfter performed step meaning lineOf call wordOf same split number done numberOf readOn valueOn leads allDigits answer fields spell guard fits storeTests freshCells created createOut has keep first least greatest occupied vacant opened idsWith beginWords beginOut
 begin-is-last p x = rw (held-is p beginFront (held 5 false) x (omega arith)) (record { lines = record { bytes = refl; past = refl }; memory = refl })
 
+-- one piece, in two batches
+abbrev onePiece : List ℕ
+onePiece = storeText ++ (13 ∷ 10 ∷ beginText)
+
+pub one-cut : Cut (onePiece ∷ []) ((storeText ++ (13 ∷ [])) ∷ (10 ∷ beginText) ∷ [])
+one-cut = a-piece {piece = onePiece} (a-part {from = 0} {next = 10} (omega arith) (a-part {from = 10} {next = 16} (omega arith) (no-more {from = 16} (omega arith)))) no-piece
+
 pub one-run : Run one emptyFront (held 0 false) ((storeText ++ (13 ∷ [])) ∷ (10 ∷ beginText) ∷ []) zeroMem (memoryAfter one (beginText ∷ []) afterStore) ([] ∷ okLine ∷ begunLine ∷ [])
 one-run = a-batch nothing-ends (omega arith) (a-batch store-ends (omega arith) (the-rest begin-is-last (omega arith)))
 
 -- ---- no output serves every text: not both the empty one and an empty record
 
-pub no-output-serves-every-text : (z : Rooms) (front : List ℕ) (h : Held) (outs : List (List ℕ)) (m k n : Mem base)
-    → Holds [] front h → Run z front h ([] ∷ []) m k outs → Run z front h ((13 ∷ 10 ∷ []) ∷ []) m n outs → ⊥
+pub no-output-serves-every-text : (z : Rooms) (front : List ℕ) (h : Held) (ss ts outs : List (List ℕ)) (m k n : Mem base) → Holds [] front h
+    → Cut [] ss → Run z front h ss m k outs → Cut ((13 ∷ 10 ∷ []) ∷ []) ts → Run z front h ts m n outs → ⊥
 unfolding records replayed performed meaning lineOf call wordOf same split answer fields spell
-no-output-serves-every-text z front h outs m k n x r q =
-    let e : _≡_ {A = ℕ} 0 11 = ap length (sym (batches-answer-the-whole-text z x r .output) ∙ batches-answer-the-whole-text z x q .output) in
+no-output-serves-every-text z front h ss ts outs m k n x c r d q =
+    let e : _≡_ {A = ℕ} 0 11 = ap length (sym (batches-answer-the-whole-text z x c r .output) ∙ batches-answer-the-whole-text z x d q .output) in
     omega arith
