@@ -1,3 +1,4 @@
 pub mod Perform
 pub mod Counted
 pub mod Laws
+pub mod NeverFull
