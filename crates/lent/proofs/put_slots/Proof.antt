@@ -1,0 +1,30 @@
+use borrow.Author.Needs.{needs}
+use Prim.Native.Nat.{_-_}
+use Rattle.lent.proofs.put_slots.Statement.{statement}
+use Rattle.lent.proofs.put_slots.Tie as tie
+
+abbrev Inv-loop : tie.InvT-loop
+Inv-loop mem₀ slots n i₀ mem i = Unit {0}
+
+abbrev μ-loop : tie.MeasureT-loop
+μ-loop mem₀ slots n i₀ mem i = n - i
+
+pub put-slots-spec : {M : Type 1} → statement M
+put-slots-spec =
+    tie.close
+    (tie.spec
+    Inv-loop
+    μ-loop
+    (λ c. search needs)
+    (λ c. tt)
+    (λ c. search needs)
+    (λ c. search needs)
+    (λ c. search needs)
+    (λ c. search needs)
+    (λ c. search needs)
+    (λ c. search needs)
+    (λ c. search needs)
+    (λ c. search needs)
+    (λ c. search needs)
+    (λ c. tt)
+    (λ c. search needs))

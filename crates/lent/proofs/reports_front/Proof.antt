@@ -1,0 +1,17 @@
+use native.Mathlib.Omega.{arith}
+use lib.ListN.{length-take}
+use borrow.Author.Needs.{needs}
+use Rattle.lent.proofs.reports_front.Statement.{statement}
+use Rattle.lent.proofs.reports_front.Tie as tie
+
+returns : tie.Need-returns
+returns c = search needs
+
+slice-aggregate-result : tie.Need-slice-aggregate-result
+slice-aggregate-result c = omega (arith, length-take (c .before .before .args .count) (c .before .before .args .reports .now))
+
+returns-2 : tie.Need-returns-2
+returns-2 c = search needs
+
+pub reports-front-spec : {M : Type 1} → statement M
+reports-front-spec = tie.close (tie.spec returns slice-aggregate-result returns-2)
