@@ -1,6 +1,5 @@
 // Each public call, run on the lent part of the arenas; its answer is told.
 use handmade::memory::ALL;
-use handmade::memory::CELLS;
 use handmade::memory::HEADS;
 use handmade::memory::LENT_CELLS;
 use handmade::memory::LENT_LISTS;
@@ -9,21 +8,16 @@ use handmade::memory::LENT_SLOTS;
 use handmade::memory::META;
 use handmade::memory::REPORT_WORDS;
 use handmade::memory::RESULTS;
-use handmade::memory::SLOTS;
 use handmade::memory::WANTED;
-use handmade::memory::WORDS;
 use kinds::Value;
 use lent::cells_front;
 use lent::cells_of;
 use lent::list_of;
-use lent::put_cells;
-use lent::put_list;
-use lent::put_reports;
-use lent::put_slots;
 use lent::reports_front;
 use lent::reports_of;
 use lent::slots_front;
 use lent::slots_of;
+use lent::with_arenas;
 use lookup::front;
 use lookup::front_mut;
 use saying::say_answer;
@@ -36,6 +30,7 @@ use script::verbs::COMMIT;
 use script::verbs::CREATE;
 use script::verbs::FRONT;
 use script::verbs::LOOKUP;
+use script::verbs::LOOKUP_ALL;
 use script::verbs::READ;
 use script::verbs::VACUUM;
 use script::verbs::WRITE;
@@ -64,7 +59,7 @@ fn call_plain(
     let id = TxId(args[1]);
     let row = args[2];
     match verb {
-        CREATE => say_answer(store::create(meta, heads, cells, slots, slot, id.0)),
+        CREATE => say_answer(store::create(meta, heads, cells, slots, args[0], args[1])),
         BEGIN => say_answer(store::begin(meta, heads, cells, slots)),
         READ => say_value(store::read(meta, heads, cells, slots, slot, id, row)),
         COMMIT => say_answer(store::commit(meta, heads, cells, slots, slot, id)),
@@ -82,10 +77,10 @@ fn call_plain(
     }
 }
 
-// The calls over a buffer.
-fn call_buffered(
+// The calls over a buffer, and the others.
+fn call_lent(
     meta: &mut [u64],
-    heads: &[u64],
+    heads: &mut [u64],
     cells: &mut [[u64; CELL_WORDS]],
     slots: &mut [[u64; WIDTH]],
     reports: &mut [[u64; REPORT_WORDS]],
@@ -96,7 +91,6 @@ fn call_buffered(
 ) {
     let slot = args[0];
     let id = TxId(args[1]);
-    let key = args[2];
     match verb {
         VACUUM => say_answer(store::vacuum(meta, heads, cells, slots, args[0], args[1], reports)),
         LOOKUP => say_answer(store::lookup(
@@ -106,70 +100,27 @@ fn call_buffered(
             slots,
             slot,
             id,
-            key,
+            args[2],
             wanted,
             results,
         )),
+        LOOKUP_ALL => say_answer(store::lookup_all(
+            meta,
+            heads,
+            cells,
+            slots,
+            slot,
+            id,
+            args[2],
+            results,
+        )),
         FRONT => say_front(store::front(results, args[0])),
-        _ => say_answer(store::lookup_all(meta, heads, cells, slots, slot, id, key, results)),
+        _ => call_plain(meta, heads, cells, slots, verb, args),
     }
 }
 
-fn call_any(
-    meta: &mut [u64],
-    heads: &mut [u64],
-    cells: &mut [[u64; CELL_WORDS]],
-    slots: &mut [[u64; WIDTH]],
-    reports: &mut [[u64; REPORT_WORDS]],
-    wanted: &[u64],
-    results: &mut [u64],
-    verb: u64,
-    args: &[u64; ARGS],
-) {
-    if verb < VACUUM {
-        call_plain(meta, heads, cells, slots, verb, args);
-        return;
-    }
-    call_buffered(
-        meta,
-        heads,
-        cells,
-        slots,
-        reports,
-        wanted,
-        results,
-        verb,
-        args,
-    );
-}
-
-// The fronts of the arenas, as far as they are lent.
-fn call_lent(
-    mem: &[u64; ALL],
-    meta: &mut [u64],
-    heads: &mut [u64],
-    cells: &mut [[u64; CELL_WORDS]],
-    slots: &mut [[u64; WIDTH]],
-    reports: &mut [[u64; REPORT_WORDS]],
-    wanted: &[u64],
-    results: &mut [u64],
-    verb: u64,
-    args: &[u64; ARGS],
-) {
-    call_any(
-        front_mut(meta, mem[LENT_LISTS + META]),
-        front_mut(heads, mem[LENT_LISTS + HEADS]),
-        cells_front(cells, mem[LENT_CELLS]),
-        slots_front(slots, mem[LENT_SLOTS]),
-        reports_front(reports, mem[LENT_REPORTS]),
-        front(wanted, mem[LENT_LISTS + WANTED]),
-        front_mut(results, mem[LENT_LISTS + RESULTS]),
-        verb,
-        args,
-    );
-}
-
-pub fn call(mem: &mut [u64; ALL], verb: u64, args: &[u64; ARGS]) {
+// The memory after a call on its arenas, each lent as far as the memory says.
+pub fn call(mem: &[u64; ALL], verb: u64, args: &[u64; ARGS]) -> [u64; ALL] {
     let mut meta = list_of(mem, META);
     let mut heads = list_of(mem, HEADS);
     let mut cells = cells_of(mem);
@@ -178,21 +129,15 @@ pub fn call(mem: &mut [u64; ALL], verb: u64, args: &[u64; ARGS]) {
     let wanted = list_of(mem, WANTED);
     let mut results = list_of(mem, RESULTS);
     call_lent(
-        mem,
-        &mut meta,
-        &mut heads,
-        &mut cells,
-        &mut slots,
-        &mut reports,
-        &wanted,
-        &mut results,
+        front_mut(&mut meta, mem[LENT_LISTS + META]),
+        front_mut(&mut heads, mem[LENT_LISTS + HEADS]),
+        cells_front(&mut cells, mem[LENT_CELLS]),
+        slots_front(&mut slots, mem[LENT_SLOTS]),
+        reports_front(&mut reports, mem[LENT_REPORTS]),
+        front(&wanted, mem[LENT_LISTS + WANTED]),
+        front_mut(&mut results, mem[LENT_LISTS + RESULTS]),
         verb,
         args,
     );
-    put_list(mem, META, &meta);
-    put_list(mem, HEADS, &heads);
-    put_cells(mem, &cells);
-    put_slots(mem, &slots);
-    put_reports(mem, &reports);
-    put_list(mem, RESULTS, &results);
+    with_arenas(mem, &meta, &heads, &results, &cells, &slots, &reports)
 }

@@ -21,10 +21,10 @@ use script::verbs::verb_of;
 
 // The call, and what it changed.
 fn act(mem: &mut [u64; ALL], verb: u64, args: &[u64; ARGS]) {
-    let before = *mem;
-    call(mem, verb, args);
+    let now = call(mem, verb, args);
     say(b"\n");
-    tell_changes(&before, mem);
+    tell_changes(mem, &now);
+    *mem = now;
 }
 
 fn carry_out(mem: &mut [u64; ALL], s: &[u8], verb: u64, from: usize) {

@@ -181,6 +181,7 @@ fn step_of_series(verb: u64) -> Spot {
 // A series ends with how many, the first value and the rise.
 fn series(mem: &mut [u64; ALL], verb: u64, args: &[u64; ARGS], n: usize) {
     if n < 3 {
+        say(b"? not enough numbers\n");
         return;
     }
     if n > ARGS {

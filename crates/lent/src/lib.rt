@@ -2,9 +2,12 @@
 use handmade::memory::ALL;
 use handmade::memory::CELLS;
 use handmade::memory::CELLS_AT;
+use handmade::memory::HEADS;
 use handmade::memory::LISTS;
+use handmade::memory::META;
 use handmade::memory::REPORT_WORDS;
 use handmade::memory::REPORTS_AT;
+use handmade::memory::RESULTS;
 use handmade::memory::SLOTS;
 use handmade::memory::SLOTS_AT;
 use handmade::memory::WORDS;
@@ -26,7 +29,7 @@ pub fn list_of(mem: &[u64; ALL], list: usize) -> [u64; WORDS] {
     words
 }
 
-pub fn put_list(mem: &mut [u64; ALL], list: usize, words: &[u64; WORDS]) {
+fn put_list(mem: &mut [u64; ALL], list: usize, words: &[u64; WORDS]) {
     if list >= LISTS {
         return;
     }
@@ -49,7 +52,7 @@ pub fn cells_of(mem: &[u64; ALL]) -> [[u64; CELL_WORDS]; CELLS] {
     cells
 }
 
-pub fn put_cells(mem: &mut [u64; ALL], cells: &[[u64; CELL_WORDS]; CELLS]) {
+fn put_cells(mem: &mut [u64; ALL], cells: &[[u64; CELL_WORDS]; CELLS]) {
     let n = CELLS * CELL_WORDS;
     let mut i = 0;
     while i < n {
@@ -69,7 +72,7 @@ pub fn slots_of(mem: &[u64; ALL]) -> [[u64; WIDTH]; SLOTS] {
     slots
 }
 
-pub fn put_slots(mem: &mut [u64; ALL], slots: &[[u64; WIDTH]; SLOTS]) {
+fn put_slots(mem: &mut [u64; ALL], slots: &[[u64; WIDTH]; SLOTS]) {
     let n = SLOTS * WIDTH;
     let mut i = 0;
     while i < n {
@@ -89,13 +92,33 @@ pub fn reports_of(mem: &[u64; ALL]) -> [[u64; REPORT_WORDS]; CELLS] {
     reports
 }
 
-pub fn put_reports(mem: &mut [u64; ALL], reports: &[[u64; REPORT_WORDS]; CELLS]) {
+fn put_reports(mem: &mut [u64; ALL], reports: &[[u64; REPORT_WORDS]; CELLS]) {
     let n = CELLS * REPORT_WORDS;
     let mut i = 0;
     while i < n {
         mem[REPORTS_AT + i] = reports[i / REPORT_WORDS][i % REPORT_WORDS];
         i += 1;
     }
+}
+
+// The memory with the arenas as a call left them.
+pub fn with_arenas(
+    mem: &[u64; ALL],
+    meta: &[u64; WORDS],
+    heads: &[u64; WORDS],
+    results: &[u64; WORDS],
+    cells: &[[u64; CELL_WORDS]; CELLS],
+    slots: &[[u64; WIDTH]; SLOTS],
+    reports: &[[u64; REPORT_WORDS]; CELLS],
+) -> [u64; ALL] {
+    let mut now = *mem;
+    put_list(&mut now, META, meta);
+    put_list(&mut now, HEADS, heads);
+    put_list(&mut now, RESULTS, results);
+    put_cells(&mut now, cells);
+    put_slots(&mut now, slots);
+    put_reports(&mut now, reports);
+    now
 }
 
 // The front of an arena: the whole where more is said to be lent than there is.

@@ -11,7 +11,7 @@ use words::WRITES;
 // Numbers of a line at most.
 pub const ARGS: usize = 24;
 
-// No line has as many numbers: something in it is no number and no name.
+// No line has as many numbers: there are too many, or something is no number and no name.
 pub const BAD: usize = 99;
 
 pub const CASE: u64 = 0;
@@ -123,8 +123,9 @@ fn number(w: &[u8], verb: u64) -> Number {
 // The numbers of a line from a place on, and how many they are.
 pub fn numbers(s: &[u8], from: usize, verb: u64, args: &mut [u64; ARGS]) -> usize {
     let mut at = from;
+    let most = ARGS;
     let mut n = 0;
-    while n < ARGS {
+    while n < most {
         if at >= s.len() {
             return n;
         }
@@ -136,5 +137,5 @@ pub fn numbers(s: &[u8], from: usize, verb: u64, args: &mut [u64; ARGS]) -> usiz
         n += 1;
         at = after(s, end);
     }
-    n
+    if at < s.len() { BAD } else { n }
 }
