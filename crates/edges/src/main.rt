@@ -1,5 +1,7 @@
 // Every public call at each boundary of paper 01 and one past it, on hand-made memory: the script is the file stdin, and what each call
 // answers and changes is the file stdout, which was worked out from the paper.
+mod lines;
+
 use saying::say;
 use saying::say_number;
 
@@ -22,5 +24,5 @@ fn main() {
             return;
         }
     }
-    bench::run(&script[..n]);
+    lines::run(&script[..n]);
 }

@@ -1,6 +1,6 @@
 use borrow.Author.Needs.{needs}
-use Rattle.bench.proofs.lines.run.Statement.{statement}
-use Rattle.bench.proofs.lines.run.Tie as tie
+use Rattle.edges.proofs.lines.run.Statement.{statement}
+use Rattle.edges.proofs.lines.run.Tie as tie
 
 abbrev Inv-loop : tie.InvT-loop
 Inv-loop script mem₀ at₀ left₀ mem at left = Unit {0}

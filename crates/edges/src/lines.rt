@@ -1,6 +1,6 @@
 // A script, line by line. A line `case ..` is told as it stands; `memory X Y` makes every word of the lent entries X and of the others Y;
 // a line that makes memory is carried out; a call is told with its answer and all that it changed.
-use super::calls::call;
+use bench::call;
 use changes::tell_changes;
 use digits::Number;
 use handmade::memory::ALL;
