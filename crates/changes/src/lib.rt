@@ -167,38 +167,28 @@ fn say_run(c: Column, run: Run) {
     say(b"\n");
 }
 
-// Is the i-th word, that became `is`, one more of the run?
-fn goes_on(c: Column, run: Run, i: usize, is: u64) -> bool {
-    if run.end != i {
-        return false;
-    }
-    if run.from == i {
-        return false;
-    }
-    is == wrapping_add_u64(run.last, rise_of(c))
-}
-
-// The run after the i-th word, that was `was` and is `is`: a run that ends before it is told.
+// The run after the i-th word, that was `was` and is `is`: it goes on, or is told and another begins.
 fn run_after(c: Column, run: Run, i: usize, was: u64, is: u64) -> Run {
     if was == is {
         return run;
     }
-    let end = wrapping_add_usize(i, 1);
-    if goes_on(c, run, i, is) {
-        return Run {
-            from: run.from,
-            end,
-            value: run.value,
-            last: is,
-        };
-    }
-    say_run(c, run);
-    Run {
+    let mut next = Run {
         from: i,
-        end,
+        end: wrapping_add_usize(i, 1),
         value: is,
         last: is,
+    };
+    if run.from < run.end {
+        if run.end == i {
+            if is == wrapping_add_u64(run.last, rise_of(c)) {
+                next.from = run.from;
+                next.value = run.value;
+                return next;
+            }
+        }
     }
+    say_run(c, run);
+    next
 }
 
 fn word(mem: &[u64; ALL], at: usize) -> u64 {

@@ -178,25 +178,6 @@ fn step_of_series(verb: u64) -> Spot {
     spot_of(0, 0, 3)
 }
 
-// A series ends with how many, the first value and the rise.
-fn series(mem: &mut [u64; ALL], verb: u64, args: &[u64; ARGS], n: usize) {
-    if n < 3 {
-        say(b"? not enough numbers\n");
-        return;
-    }
-    if n > ARGS {
-        return;
-    }
-    put_series(
-        mem,
-        first(verb, args),
-        step_of_series(verb),
-        cut(args[n - 3], CELLS),
-        args[n - 2],
-        args[n - 1],
-    );
-}
-
 // How many numbers of a line say where its first word lies.
 fn places(verb: u64) -> usize {
     match verb {
@@ -206,15 +187,31 @@ fn places(verb: u64) -> usize {
     }
 }
 
-// Memory made by hand, as a line with n numbers says.
+// Memory made by hand, as a line with n numbers says. A series ends with how many, the first value and the rise.
 pub fn poke(mem: &mut [u64; ALL], verb: u64, args: &[u64; ARGS], n: usize) {
+    let at = first(verb, args);
     if verb < FIRST_LIST {
-        put_named(mem, first(verb, args), args, places(verb), n);
+        put_named(mem, at, args, places(verb), n);
         return;
     }
     if verb < FIRST_SERIES {
-        put_row(mem, first(verb, args), args, places(verb), n);
+        put_row(mem, at, args, places(verb), n);
         return;
     }
-    series(mem, verb, args, n);
+    if n < 3 {
+        say(b"? not enough numbers\n");
+        return;
+    }
+    if n > ARGS {
+        return;
+    }
+    let count = cut(args[n - 3], CELLS);
+    put_series(
+        mem,
+        at,
+        step_of_series(verb),
+        count,
+        args[n - 2],
+        args[n - 1],
+    );
 }
