@@ -25,9 +25,6 @@ abbrev μ-loop : tie.MeasureT-loop
 μ-loop piece front₀ meta₀ rows₀ cells₀ slots₀ reports₀ numbers₀ out₀ place₀ front meta rows cells slots reports numbers out place =
     length piece - place .from
 
-first-place-requires : tie.Need-first-place-requires Inv-loop μ-loop
-first-place-requires c κs = search needs
-
 loop-holds : tie.Need-loop-holds Inv-loop μ-loop
 loop-holds c = (rw (c .first-place .ensures .1 .1) (c .before .before .before .before .before .before .before .pre .1), omega (arith, c .first-place .ensures .0), c .first-place .ensures .1 .0, refl, refl, refl, refl, refl, refl, refl, refl, λ p x. taken-start _ p (c .before .before .before .before .before .before .before .args .piece .now) _ _ _ _ (c .first-place .ensures .0) x)
 
@@ -40,39 +37,12 @@ slice-reshare-prefix-write-all c = c .before .before .before .before .before .be
 slice-aggregate-write-all : tie.Need-slice-aggregate-write-all Inv-loop μ-loop
 slice-aggregate-write-all c = sym (length-take-le _ _ (c .before .before .before .before .before .before .before .before .before .before .before .before .before .before .play-batch .ensures .0 .stands .put))
 
-write-all-requires : tie.Need-write-all-requires Inv-loop μ-loop
-write-all-requires c κs = search needs
-
 loop-less : tie.Need-loop-less Inv-loop μ-loop
 loop-less c = omega (arith, c .before .before .before .before .before .before .before .before .before .before .before .before .before .before .before .play-batch .ensures .0 .further (c .before .before .before .before .before .before .before .before .before .before .before .before .before .before .before .before .before .before .before .before .before .before .before .before .if1 .taken), c .before .before .before .before .before .before .before .before .before .before .before .before .before .before .before .play-batch .ensures .0 .stands .within)
 
 loop-again : tie.Need-loop-again Inv-loop μ-loop
 loop-again c = let w = c .before .before .before .before .before .before .before .before .before .before .before .before .before .before .before .play-batch .ensures .0 in
     (w .stands .sane, w .stands .within, refl, search needs, search needs, search needs, search needs, search needs, search needs, search needs, search needs, λ p x. batch-then _ p _ _ (rw (c .before .before .before .before .before .before .before .before .before .before .before .before .before .before .before .before .before .before .before .before .before .before .before .before .before .before .loop .inv .8, c .before .before .before .before .before .before .before .before .before .before .before .before .before .before .before .before .before .before .before .before .before .before .before .before .before .before .loop .inv .9)) (c .before .before .before .before .before .before .before .before .before .before .before .before .before .before .before .before .before .before .before .before .before .before .before .before .before .before .loop .place) (c .before .before .before .before .before .before .before .before .before .before .before .before .before .before .before .play-batch .result) _ _ _ _ _ _ _ (w .forward) (c .before .before .before .before .before .before .before .before .before .before .before .before .before .before .before .before .before .before .before .before .before .before .before .before .before .before .loop .inv .11 p x) (c .before .before .before .before .before .before .before .before .before .before .before .before .before .before .before .play-batch .ensures .1 _ (c .before .before .before .before .before .before .before .before .before .before .before .before .before .before .before .before .before .before .before .before .before .before .before .before .before .before .loop .inv .11 p x .holds)))
-
-same-length : tie.Need-same-length Inv-loop μ-loop
-same-length c = search needs
-
-same-length-2 : tie.Need-same-length-2 Inv-loop μ-loop
-same-length-2 c = search needs
-
-same-length-3 : tie.Need-same-length-3 Inv-loop μ-loop
-same-length-3 c = search needs
-
-same-length-4 : tie.Need-same-length-4 Inv-loop μ-loop
-same-length-4 c = search needs
-
-same-length-5 : tie.Need-same-length-5 Inv-loop μ-loop
-same-length-5 c = search needs
-
-same-length-6 : tie.Need-same-length-6 Inv-loop μ-loop
-same-length-6 c = search needs
-
-same-length-7 : tie.Need-same-length-7 Inv-loop μ-loop
-same-length-7 c = search needs
-
-same-length-8 : tie.Need-same-length-8 Inv-loop μ-loop
-same-length-8 c = search needs
 
 returns : tie.Need-returns Inv-loop μ-loop
 returns c = (rw (c .before .before .before .loop .inv .3) at (c .before .before .before .loop .inv .0), λ p x. all-taken _ p (c .before .before .before .before .before .before .before .before .before .before .before .args .piece .now) _ _ _ _ _ (c .before .if1 .left) (c .before .before .before .loop .inv .11 p (rw (c .before .before .before .before .first-place .ensures .1 .1) x)))
@@ -83,20 +53,20 @@ play-piece-spec =
     (tie.spec
     Inv-loop
     μ-loop
-    first-place-requires
+    (λ c κs. search needs)
     loop-holds
     play-batch-requires
     slice-reshare-prefix-write-all
     slice-aggregate-write-all
-    write-all-requires
+    (λ c κs. search needs)
     loop-less
     loop-again
-    same-length
-    same-length-2
-    same-length-3
-    same-length-4
-    same-length-5
-    same-length-6
-    same-length-7
-    same-length-8
+    (λ c. search needs)
+    (λ c. search needs)
+    (λ c. search needs)
+    (λ c. search needs)
+    (λ c. search needs)
+    (λ c. search needs)
+    (λ c. search needs)
+    (λ c. search needs)
     returns)

@@ -6,56 +6,14 @@ use borrow.Author.Needs.{needs}
 use Rattle.player.proofs.play_record.Statement.{statement}
 use Rattle.player.proofs.play_record.Tie as tie
 
-next-record-requires : tie.Need-next-record-requires
-next-record-requires c κs = search needs
-
-enum-known-held : tie.Need-enum-known-held
-enum-known-held c = search needs
-
-enum-known-count : tie.Need-enum-known-count
-enum-known-count c = search needs
-
 slice-reshare-prefix-text : tie.Need-slice-reshare-prefix-text
 slice-reshare-prefix-text c = told-record _ _ _ _ _ _ (c .before .count .given .1) (c .before .before .before .before .before .next-record .ensures .0) .0
 
 slice-aggregate-text : tie.Need-slice-aggregate-text
 slice-aggregate-text c = sym (length-take-le _ _ (told-record _ _ _ _ _ _ (c .before .before .count .given .1) (c .before .before .before .before .before .before .next-record .ensures .0) .0))
 
-perform-requires : tie.Need-perform-requires
-perform-requires c κs = search needs
-
-nothing-requires : tie.Need-nothing-requires
-nothing-requires c κs = search needs
-
-same-length : tie.Need-same-length
-same-length c = search needs
-
 returns : tie.Need-returns
 returns c = ((record { sane = told-more _ _ _ _ _ (c .before .held .given .1) (c .before .before .before .before .before .next-record .ensures .0); within = omega arith; put = omega (arith, c .before .before .before .before .before .before .before .before .before .before .before .before .before .pre .has-room) }, refl), λ p x. record { holds = told-holds _ _ _ _ _ _ (c .before .held .given .1) (c .before .before .before .before .before .next-record .ensures .1 .1 p x); memory = refl; output = refl; place = refl })
-
-same-length-2 : tie.Need-same-length-2
-same-length-2 c = search needs
-
-same-length-3 : tie.Need-same-length-3
-same-length-3 c = search needs
-
-same-length-4 : tie.Need-same-length-4
-same-length-4 c = search needs
-
-same-length-5 : tie.Need-same-length-5
-same-length-5 c = search needs
-
-same-length-6 : tie.Need-same-length-6
-same-length-6 c = search needs
-
-same-length-7 : tie.Need-same-length-7
-same-length-7 c = search needs
-
-same-length-8 : tie.Need-same-length-8
-same-length-8 c = search needs
-
-same-length-9 : tie.Need-same-length-9
-same-length-9 c = search needs
 
 returns-2 : tie.Need-returns-2
 returns-2 c = let w = told-record _ _ _ _ _ _ (c .before .before .before .before .before .before .before .before .before .before .before .before .before .before .before .before .before .before .before .before .before .before .count .given .1) (c .before .before .before .before .before .before .before .before .before .before .before .before .before .before .before .before .before .before .before .before .before .before .before .before .before .before .next-record .ensures .0) in
@@ -66,21 +24,21 @@ pub play-record-spec : {M : Type 1} → statement M
 play-record-spec =
     tie.close
     (tie.spec
-    next-record-requires
-    enum-known-held
-    enum-known-count
+    (λ c κs. search needs)
+    (λ c. search needs)
+    (λ c. search needs)
     slice-reshare-prefix-text
     slice-aggregate-text
-    perform-requires
-    nothing-requires
-    same-length
+    (λ c κs. search needs)
+    (λ c κs. search needs)
+    (λ c. search needs)
     returns
-    same-length-2
-    same-length-3
-    same-length-4
-    same-length-5
-    same-length-6
-    same-length-7
-    same-length-8
-    same-length-9
+    (λ c. search needs)
+    (λ c. search needs)
+    (λ c. search needs)
+    (λ c. search needs)
+    (λ c. search needs)
+    (λ c. search needs)
+    (λ c. search needs)
+    (λ c. search needs)
     returns-2)
