@@ -1,4 +1,6 @@
 // Read and write of a row by a transaction whose slot was tested. The store calls these; `SlotFine` is what its test has shown.
+#![tactic(auto)]
+
 ghost use Rattle.std.specs.Prelude.{[], ◌≡◌, ◌<◌, get_or};
 ghost use Rattle.std.proofs.Math.Option.{none};
 ghost use Rattle.words.specs.Sizes.{base};

@@ -1,4 +1,6 @@
 // Answer lines of the replay program, put into a lent buffer from a place on. Each function answers the place after what it put.
+#![tactic(auto)]
+
 ghost use Rattle.std.specs.Prelude.{◌≡◌, [], ◌∷◌, ◌+◌, ◌*◌, ◌≤◌, length};
 ghost use Rattle.digits.specs.Numbers.{Laid};
 ghost use Rattle.answers.specs.Answers.{field, fields, answer, wOk, wNone, wEmpty, wKey, wRefused, span, room};

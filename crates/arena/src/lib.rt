@@ -1,4 +1,6 @@
 // The arena of cells: a version read and stored whole, the walk along a chain, the free list.
+#![tactic(auto)]
+
 ghost use Rattle.std.specs.Prelude.{◌≡◌, not, [], ◌∷◌, ◌≤◌, length, get_or, set};
 ghost use Rattle.words.specs.Sizes.{base, meta_words};
 ghost use Rattle.words.specs.Sizes as words;
@@ -86,7 +88,7 @@ pub fn put_version(cells: &mut [[u64; CELL_WORDS]], c: Cell, v: Version)
 }
 
 // What a reader finds along a chain.
-#[derive(Drop)]
+#[derive(Clone, Copy)]
 pub enum Seen {
     At(Cell),
     Nothing,

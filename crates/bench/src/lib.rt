@@ -1,4 +1,6 @@
 // A bench for the public calls: each is run on hand-made memory, as much of it as is lent, and its answer is told.
+#![tactic(auto)]
+
 use handmade::memory::{
     ALL, HEADS, LENT_CELLS, LENT_LISTS, LENT_REPORTS, LENT_SLOTS, META, REPORT_WORDS, RESULTS,
     WANTED,

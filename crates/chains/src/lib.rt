@@ -1,5 +1,7 @@
 // The loops of a row's vacuum: the chain behind the head is judged, its reclaimable versions are reported, what stays is linked anew,
 // and the reported cells are given back. The judge looks at any memory; the others ask for what its verdict has shown.
+#![tactic(auto)]
+
 ghost use Rattle.std.specs.Prelude.{Bool, true, not, cond, List, [], ◌∷◌, ◌≡◌, ℕ, ◌+◌, ◌≤◌, ◌<◌, length, set};
 ghost use mir.Val.{bool_byte};
 ghost use Rattle.std.proofs.lemmas.List.Edits.{sets};
@@ -22,7 +24,7 @@ use kinds::{Cell, Version};
 use words::CELL_WORDS;
 
 // What the walk of a judge comes to: a chain that is too long or broken, or how many of its versions are reclaimable.
-#[derive(Drop)]
+#[derive(Clone, Copy)]
 pub enum Tally {
     Harmed,
     Sound(u64),

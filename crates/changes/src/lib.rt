@@ -1,4 +1,6 @@
 // What a call changed: every word of the memory that is not as it was, told by name. Neighbours that changed alike are one line.
+#![tactic(auto)]
+
 use handmade::memory::{
     ALL, CELLS, CELLS_AT, LISTS, META, REPORT_WORDS, REPORTS_AT, RESULTS, SLOTS, SLOTS_AT, WORDS,
 };
@@ -17,7 +19,7 @@ const OF_REPORTS: u64 = 3;
 
 // Words that are compared in a row, each a step after the one before: a list or a slot (by its number), or one word of all cells or all
 // reports (by its place in them).
-#[derive(Drop)]
+#[derive(Clone, Copy)]
 pub struct Column {
     of: u64,
     which: usize,
@@ -27,7 +29,7 @@ pub struct Column {
 }
 
 // Neighbours of a column that changed alike: where they begin and end, and what the first and the last of them became.
-#[derive(Drop)]
+#[derive(Clone, Copy)]
 pub struct Run {
     from: usize,
     end: usize,

@@ -1,9 +1,11 @@
 // Decimal numbers as bytes: a number read from a slice, and a number put into a buffer.
+#![tactic(auto)]
+
 ghost use Rattle.std.specs.Prelude.{◌≡◌, ◌+◌, ◌≤◌, ◌<◌, length};
 ghost use Rattle.digits.specs.Numbers.{leads as Numbers·leads, number_of, told, digits, most, Laid};
 
 // What a slice says.
-#[derive(Drop)]
+#[derive(Clone, Copy)]
 pub enum Number {
     Nothing,
     Is(u64),

@@ -1,5 +1,7 @@
 // Every public call at each boundary of paper 01 and one past it, on hand-made memory: the script is the file stdin, and what each call
 // answers and changes is the file stdout, which was worked out from the paper.
+#![tactic(auto)]
+
 mod lines;
 
 use saying::{say, say_number};

@@ -1,4 +1,6 @@
 // The two ends of a transaction whose slot was tested: commit and abort. Every test comes before the first store.
+#![tactic(auto)]
+
 ghost use Rattle.std.specs.Prelude.{[], ◌≡◌, ◌<◌, length, set};
 ghost use Rattle.words.specs.Sizes.{base};
 ghost use Rattle.words.specs.Slots.{emptied};

@@ -1,5 +1,7 @@
 // The rows of a lookup: which are read, and what reading them one by one comes to. Nothing lent by a caller is written here: records
 // go into a copy of the slot and rows into a list beside it, so that a lookup refused late has changed nothing.
+#![tactic(auto)]
+
 ghost use Rattle.std.specs.Prelude.{◌≡◌, cond, ◌≤◌, ◌<◌, length, get_or};
 ghost use Rattle.words.specs.Sizes.{base};
 ghost use Rattle.words.specs.Lists.{fold, keep, from, nonzero};
@@ -90,7 +92,7 @@ pub fn check_own(slot: &[u64; WIDTH], r: u64) -> Verdict
 // ---- reading them
 
 // What a lookup has come to after some rows: how many are listed, or a refusal.
-#[derive(Drop)]
+#[derive(Clone, Copy)]
 pub enum Listing {
     Rows(u64),
     Stopped { number: u64, value: u64 },

@@ -1,4 +1,6 @@
 // What an accepted creation stores, arena by arena. A longer arena keeps its rest; of a shorter one what is there is stored.
+#![tactic(auto)]
+
 ghost use Rattle.std.specs.Prelude.{◌≡◌, [], ◌∷◌, min, replicate};
 ghost use Rattle.std.proofs.lemmas.List.Edits.{sets};
 ghost use Rattle.words.specs.Sizes.{base};

@@ -1,4 +1,6 @@
 // What every call tests first: sizes and clock, then slot, owner and counts.
+#![tactic(auto)]
+
 ghost use Rattle.std.specs.Prelude.{◌≡◌};
 ghost use Rattle.words.specs.Sizes.{base};
 ghost use Rattle.rules.specs.Outcome as spec;

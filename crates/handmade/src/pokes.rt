@@ -18,7 +18,7 @@ const IN_CELLS: u64 = 1;
 const IN_SLOTS: u64 = 2;
 
 // A word of the memory: its arena, the entry and the place in it. As a step: how far the next one is.
-#[derive(Drop)]
+#[derive(Clone, Copy)]
 pub struct Spot {
     arena: u64,
     entry: u64,

@@ -1,4 +1,6 @@
 // The kinds of the version store, and what belongs to a version. What the calls mean stands in `rules`.
+#![tactic(auto)]
+
 ghost use Rattle.std.specs.Prelude.{◌≡◌};
 ghost use Rattle.words.specs.Sizes.{base};
 ghost use Rattle.words.specs.Slots.{slot_of};
@@ -10,11 +12,11 @@ use words::{DAMAGED, ID, TOP, TxId, WIDTH, is_active};
 // ---- kinds
 
 // A cell's number. A transaction's id is of another kind, so the two cannot be mixed.
-#[derive(Drop)]
+#[derive(Clone, Copy)]
 pub struct Cell(pub u64);
 
 // The two flags are words as they lie, nonzero is set: a version that is read and put back keeps a lent 7.
-#[derive(Drop)]
+#[derive(Clone, Copy)]
 pub struct Version {
     pub xmin: TxId,
     pub xmax: TxId,
@@ -26,14 +28,14 @@ pub struct Version {
 }
 
 // A row's value as a caller gives it: a key, or none to delete.
-#[derive(Drop)]
+#[derive(Clone, Copy)]
 pub enum Value {
     Nothing,
     Key(u64),
 }
 
 // What a read answers: no version, a version without a key, a key; or a refusal, its number and value.
-#[derive(Drop)]
+#[derive(Clone, Copy)]
 pub enum ReadAnswer {
     None,
     Empty,
@@ -42,7 +44,7 @@ pub enum ReadAnswer {
 }
 
 // What every other call answers.
-#[derive(Drop)]
+#[derive(Clone, Copy)]
 pub enum Answer {
     Done,
     Begun { slot: u64, id: TxId },
@@ -53,7 +55,7 @@ pub enum Answer {
 }
 
 // What a list of tests comes to: none fails, or the first that does.
-#[derive(Drop)]
+#[derive(Clone, Copy)]
 pub enum Verdict {
     Fine,
     Refused { number: u64, value: u64 },

@@ -1,4 +1,6 @@
 // The arenas of the bench's memory as the store takes them: copied out for a call, lent in part, put back whole.
+#![tactic(auto)]
+
 use handmade::memory::{
     ALL, CELLS, CELLS_AT, HEADS, LISTS, META, REPORT_WORDS, REPORTS_AT, RESULTS, SLOTS, SLOTS_AT,
     WORDS,

@@ -1,4 +1,6 @@
 // One record of the replay program, a line without its end, read as a call. specs/Lines.antt says what a record means.
+#![tactic(auto)]
+
 ghost use Rattle.std.specs.Prelude.{◌≡◌, [], ◌<◌, ◌≤◌, length};
 ghost use Rattle.lines.specs.Lines.{meaning, word_of};
 ghost use Rattle.lines.specs.Lines.{same as Lines·same};
@@ -8,7 +10,7 @@ ghost use Rattle.lines.specs.Calls.{numbers_of, ending};
 use digits::Number;
 
 // A call, with its numbers as the record gives them.
-#[derive(Drop)]
+#[derive(Clone, Copy)]
 pub enum Line {
     Store {
         n: u64,
@@ -52,7 +54,7 @@ pub enum Line {
 }
 
 // The word of a call.
-#[derive(Drop)]
+#[derive(Clone, Copy)]
 pub enum Word {
     Store,
     Begin,
@@ -66,14 +68,14 @@ pub enum Word {
 }
 
 // A number field, and the place after it: a comma or the end.
-#[derive(Drop)]
+#[derive(Clone, Copy)]
 pub enum Field {
     Nothing,
     Is { value: u64, end: usize },
 }
 
 // Number fields, one after another, and the place after them. Fewer than three stand last.
-#[derive(Drop)]
+#[derive(Clone, Copy)]
 pub enum Numbers {
     Nothing,
     Are { a: u64, b: u64, c: u64, end: usize },

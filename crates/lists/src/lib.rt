@@ -1,4 +1,6 @@
 // The two lists of a slot, its writes and its read records: triples behind their count.
+#![tactic(auto)]
+
 ghost use Rattle.std.specs.Prelude.{◌≡◌, ◌+◌, ◌*◌, ◌≤◌, get_or};
 ghost use Rattle.words.specs.Sizes.{base};
 ghost use Rattle.words.specs.Slots as spec;

@@ -1,5 +1,7 @@
 // Lookup of a key by a transaction whose slot was tested, over a caller's candidates or over all rows; and the filled front of a
 // caller's buffer. All rows are read first: slot and buffer are written at the end, so a refused lookup leaves both as they were.
+#![tactic(auto)]
+
 ghost use Rattle.std.specs.Prelude.{◌≡◌, ◌≤◌, length, take};
 ghost use Rattle.std.proofs.lemmas.List.Edits.{sets};
 ghost use Rattle.words.specs.Sizes.{base};

@@ -1,5 +1,7 @@
 // Paper 01's "run only" numbers on visibility, reclaiming, snapshot and horizon, on hand-made memory: one line for each, compared with
 // the file stdout, which was worked out from the paper.
+#![tactic(auto)]
+
 use kinds::{Cell, Version};
 use libc::STDOUT_FILENO;
 use words::{ACTIVE, ID, LAST_ID, LOW, SLOTS, TOP, TxId, WIDTH};

@@ -1,4 +1,6 @@
 // A slot opened for a transaction: the active ids gathered from the arena, and the slot's first words stored.
+#![tactic(auto)]
+
 ghost use Rattle.std.specs.Prelude.{cond, ◌≡◌, ◌+◌, ◌<◌, ◌≤◌, min, eqb, length, take};
 ghost use Rattle.std.proofs.lemmas.List.Edits.{sets};
 ghost use Rattle.words.specs.Sizes.{base, last_id};

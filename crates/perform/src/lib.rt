@@ -1,5 +1,7 @@
 // One record of the replay program performed on lent memory, and its answer line put into a lent buffer. specs/Perform.antt says what a
 // record does.
+#![tactic(auto)]
+
 ghost use Rattle.std.specs.Prelude.{◌≡◌, ℕ, ◌+◌, ◌≤◌, length, take};
 ghost use Rattle.rules.specs.Lent.{mem_in, mem_out};
 ghost use Rattle.digits.specs.Numbers.{Laid};
@@ -14,7 +16,7 @@ use store::{abort, commit};
 use words::{CELL_WORDS, TxId, WIDTH};
 
 // What a call came to. The rows or the cells that `Listed` counts stand at the front of a buffer.
-#[derive(Drop)]
+#[derive(Clone, Copy)]
 pub enum Said {
     Looked(ReadAnswer),
     Gave(Answer),

@@ -1,5 +1,7 @@
 // The records of a text that arrives in pieces. CR and LF side by side end a record, and nothing else does. Of a record only as much is kept
 // as the lent buffer holds, so that a text of any length is read in constant memory.
+#![tactic(auto)]
+
 ghost use Rattle.std.specs.Prelude.{◌≡◌, ◌&&◌, List, [], ℕ, ◌<◌, ◌≤◌, eqb, length, drop};
 ghost use Rattle.pieces.specs.Held.{Sane, Holds, Handed, Put, Within};
 
@@ -8,14 +10,14 @@ const CR: u8 = 13;
 const LF: u8 = 10;
 
 // What is kept of a record whose end has not come: how many of its bytes, and whether the last that came is a CR.
-#[derive(Drop)]
+#[derive(Clone, Copy)]
 pub struct Held {
     pub count: usize,
     pub cr: bool,
 }
 
 // A record, of which the first `count` bytes are kept, and the place after its end; or its end is still to come.
-#[derive(Drop)]
+#[derive(Clone, Copy)]
 pub enum Next {
     Record { count: usize, at: usize },
     More(Held),

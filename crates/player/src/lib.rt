@@ -1,5 +1,7 @@
 // The body of the replay programs: standard input read in large pieces, a record at a time performed on the lent store, the answer lines
 // written in large pieces. What is answered to a piece is written before the next is read, so that a caller behind a pipe does not wait.
+#![tactic(auto)]
+
 ghost use Rattle.std.specs.Prelude.{◌≡◌, List, ℕ, ◌+◌, ◌≤◌, length, drop};
 ghost use Rattle.rules.specs.Lent.{mem_in, mem_out};
 ghost use Rattle.pieces.specs.Held.{Sane, Holds};
@@ -26,7 +28,7 @@ const RECORD: usize = 96;
 const ANSWER: usize = 9 + 21 * (2 + CELLS);
 
 // Where the work stands: the places in the piece and in the output, and what is held of a record.
-#[derive(Drop)]
+#[derive(Clone, Copy)]
 pub struct Place {
     pub from: usize,
     pub at: usize,
@@ -34,7 +36,7 @@ pub struct Place {
 }
 
 // One record was answered, or the piece has no more; and where the work stands then.
-#[derive(Drop)]
+#[derive(Clone, Copy)]
 pub enum Turn {
     Answered(Place),
     More(Place),

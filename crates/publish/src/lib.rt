@@ -1,5 +1,7 @@
 // The changes of a commit, after every test. Each write is three stores, and what they store is in the slot and the id: no store decides
 // what a later one writes. Cut anywhere and made again from the start, the sequence ends the same (specs/Stores.antt).
+#![tactic(auto)]
+
 ghost use Rattle.std.specs.Prelude.{◌≡◌, min, ◌≤◌, length};
 ghost use Rattle.words.specs.Sizes.{base};
 ghost use Rattle.words.specs.Slots.{slot_of, write};

@@ -1,4 +1,6 @@
 // A row as an open transaction reads it: its own write, else the first visible version; and the read records.
+#![tactic(auto)]
+
 ghost use Rattle.std.specs.Prelude.{◌≡◌, ◌<◌, get_or};
 ghost use Rattle.words.specs.Sizes.{base};
 ghost use Rattle.words.specs.Sizes as words;
@@ -17,14 +19,14 @@ use words::{
 };
 
 // The cell of a row's own write.
-#[derive(Drop)]
+#[derive(Clone, Copy)]
 pub enum Own {
     Nothing,
     At(Cell),
 }
 
 // What a row holds for a reader: its own write, a version of the chain, nothing; or why that cannot be told.
-#[derive(Drop)]
+#[derive(Clone, Copy)]
 pub enum Found {
     Own(Cell),
     Version(Cell),
@@ -104,7 +106,7 @@ pub fn add_record(slot: &mut [u64; WIDTH], row: u64, c: Cell, xmin: TxId)
 }
 
 // What a read of one row comes to: a refusal; a cell with nothing to record (cell 0 is no version); a cell that is to be recorded.
-#[derive(Drop)]
+#[derive(Clone, Copy)]
 pub enum Sight {
     Blocked { number: u64, value: u64 },
     Known(Cell),

@@ -1,13 +1,15 @@
 // The slots for hosts: records of two numbers that lie side by side, and what is taken over that lent list. Nothing is changed, nothing
 // is asked of the list, and it may have any length. A function over a list of structs is proved by a walk by hand: those are thin, and leave
 // what a slot counts for to functions by value.
+#![tactic(auto)]
+
 ghost use Rattle.std.specs.Prelude.{◌≡◌, min};
 ghost use Rattle.words.specs.Lists.{least};
 ghost use Rattle.records.specs.Horizon.{lowered, xmins, horizon_of, least_active};
 
 // A slot: its transaction id (0 = empty) and its snapshot's xmin.
 #[repr(C)]
-#[derive(Drop)]
+#[derive(Clone, Copy)]
 pub struct Slot {
     pub id: u64,
     pub xmin: u64,

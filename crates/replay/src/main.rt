@@ -1,5 +1,7 @@
 // The replay program: calls of the version store as records on standard input, an answer line for each. The store that it lends starts with
 // every field zero.
+#![tactic(auto)]
+
 use words::{CELL_WORDS, META_WORDS, SLOTS, WIDTH};
 
 fn main() {

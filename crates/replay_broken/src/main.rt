@@ -1,4 +1,6 @@
 // The replay program again, run on broken input, whose last record ends in a lone CR.
+#![tactic(auto)]
+
 use words::{CELL_WORDS, META_WORDS, SLOTS, WIDTH};
 
 fn main() {

@@ -1,4 +1,6 @@
 // The replay program again, run on empty input: no line.
+#![tactic(auto)]
+
 use words::{CELL_WORDS, META_WORDS, SLOTS, WIDTH};
 
 fn main() {

@@ -1,4 +1,6 @@
 // The replay program again, run on the stories that docs/STORIES.md tells.
+#![tactic(auto)]
+
 use words::{CELL_WORDS, META_WORDS, SLOTS, WIDTH};
 
 fn main() {

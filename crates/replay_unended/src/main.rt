@@ -1,4 +1,6 @@
 // The replay program again, run on input whose last record lacks its CR LF.
+#![tactic(auto)]
+
 use words::{CELL_WORDS, META_WORDS, SLOTS, WIDTH};
 
 fn main() {

@@ -1,4 +1,6 @@
 // What the bench says: a text, a number, a name, and the answer of a call in words.
+#![tactic(auto)]
+
 use kinds::{Answer, ReadAnswer};
 use libc::STDOUT_FILENO;
 use script::text::{BLANK, after, part, upto};

@@ -1,3 +1,5 @@
 // The text of a script of the bench: lines of words and decimal numbers with a blank between. The first word of a line says what it is.
+#![tactic(auto)]
+
 pub mod text;
 pub mod verbs;

@@ -1,5 +1,7 @@
 // The snapshot rule of Begin and the horizon, over the arena of slots. An arena may be of any length: the first SLOTS entries are the
 // slots, what lies beyond them counts for nothing.
+#![tactic(auto)]
+
 ghost use Rattle.std.specs.Prelude.{◌≡◌, [], ◌∷◌, min, max, ◌≤◌, ◌<◌, length, take};
 ghost use Rattle.words.specs.Sizes.{base};
 ghost use Rattle.words.specs.Sizes as words;
@@ -10,7 +12,7 @@ ghost use Rattle.slots.specs.OccupiedLaws.{top_over};
 use words::{ID, LAST_ID, LOW, SLOTS, WIDTH};
 
 // The snapshot's xmin and xmax.
-#[derive(Drop)]
+#[derive(Clone, Copy)]
 pub struct Snapshot {
     pub low: u64,
     pub top: u64,

@@ -1,4 +1,6 @@
 // Creation and begin: a new store, and a new transaction in it.
+#![tactic(auto)]
+
 ghost use Rattle.std.specs.Prelude.{◌≡◌, []};
 ghost use Rattle.words.specs.Sizes.{base};
 ghost use Rattle.rules.specs.Outcome.{out};

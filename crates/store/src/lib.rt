@@ -1,5 +1,7 @@
 // The public calls of the version store. Each takes any numbers and any lent memory, and one equation says what it answers and what
 // every lent word is afterwards.
+#![tactic(auto)]
+
 ghost use Rattle.std.specs.Prelude.{◌≡◌, [], length};
 ghost use Rattle.std.proofs.lemmas.List.Edits.{sets};
 ghost use Rattle.rules.specs.Outcome.{out};

@@ -1,4 +1,6 @@
 // An answer as numbers, and a value from numbers. What has no such number gives 0.
+#![tactic(auto)]
+
 ghost use Rattle.std.specs.Prelude.{◌≡◌};
 ghost use Rattle.kinds.specs.Versions.{given};
 ghost use Rattle.rules.specs.Numbers.{number_of, read_number};

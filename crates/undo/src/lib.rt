@@ -1,4 +1,6 @@
 // Abort: its tests, then its changes in two passes. Every base of this id is unlocked before the first cell is given back.
+#![tactic(auto)]
+
 ghost use Rattle.std.specs.Prelude.{◌≡◌, [], ◌∷◌, min, ◌≤◌, length};
 ghost use Rattle.words.specs.Sizes.{base, meta_words};
 ghost use Rattle.words.specs.Lists.{fold};

@@ -1,5 +1,7 @@
 // The vacuum of a row, on a store that was tested: the chain is judged first, and nothing is stored before every test has passed. Then
 // the reclaimable versions are reported, the chain is linked without them, and the reported cells are given back.
+#![tactic(auto)]
+
 ghost use Rattle.std.specs.Prelude.{List, ◌∷◌, ◌≢◌, ◌≡◌, ℕ, ◌≤◌, length, take};
 ghost use Rattle.std.proofs.lemmas.List.Edits.{sets};
 ghost use Rattle.kinds.specs.declared.Answer.TheVariants.{Vacuumed, Refused};

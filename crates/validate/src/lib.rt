@@ -1,5 +1,7 @@
 // The judge of a commit: every test that paper 01 has for it, in its order, and no change. Nothing is asked of the lent lengths: what is
 // not there reads as 0, as the rules read it.
+#![tactic(auto)]
+
 ghost use Rattle.std.specs.Prelude.{◌≡◌, [], get_or};
 ghost use Rattle.words.specs.Sizes.{base};
 ghost use Rattle.words.specs.Slots.{slot_of, write, rec};

@@ -1,6 +1,8 @@
 // The public calls for a host in C or Rust: numbers in, a number out, the arenas as pointers and counts. 0 is accepted, else the number is
 // paper 01's for "no". Every out-parameter is written, whatever is answered: with 0 where the answer has no such number. Nothing is asked
 // of the numbers or the memory.
+#![tactic(auto)]
+
 mod constants;
 
 ghost use Rattle.std.specs.Prelude.{◌≡◌, length, get_or};

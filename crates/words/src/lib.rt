@@ -1,4 +1,6 @@
 // Sizes, the places of words, the numbers for "no", and what a slot's words say of an id.
+#![tactic(auto)]
+
 ghost use Rattle.std.specs.Prelude.{◌≡◌, min};
 ghost use Rattle.words.specs.Sizes.{base};
 ghost use Rattle.words.specs.Lists.{has};
@@ -57,7 +59,7 @@ pub const WRITES: usize = ACTIVE + 1 + SLOTS;
 
 pub const READS: usize = WRITES + 1 + 3 * MOST_WRITES;
 
-#[derive(Drop)]
+#[derive(Clone, Copy)]
 pub struct Sizes {
     pub slots: usize,
     pub walk: usize,
@@ -119,7 +121,7 @@ pub const DAMAGED: u64 = 15;
 // ---- ids
 
 // A transaction's id.
-#[derive(Drop)]
+#[derive(Clone, Copy)]
 pub struct TxId(pub u64);
 
 // A count above its limit reads as the limit.

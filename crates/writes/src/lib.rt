@@ -1,4 +1,6 @@
 // A write: its tests on the row's head and on room, and what it stores.
+#![tactic(auto)]
+
 ghost use Rattle.std.specs.Prelude.{◌≡◌, [], ◌<◌, ◌≤◌, length, get_or, set};
 ghost use Rattle.words.specs.Sizes.{base, meta_words};
 ghost use Rattle.words.specs.Sizes as words;
