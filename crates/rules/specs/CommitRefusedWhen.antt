@@ -1,7 +1,7 @@
 -- A commit's refusals 9 and 8, each alone: 9 names the first conflicting record, in record order; 8 the first write whose head or base
 -- test fails, in write order.
 use Rattle.std.specs.Prelude.{ℕ, ◌≤◌, ◌<◌, List, [], ◌∷◌, ◌++◌, ◌≡◌, refl, ◌≢◌, ◌↔◌, ◌⊎◌}
-use Rattle.std.proofs.Math.Logic.{Iff·trans, Iff·and}
+use Rattle.std.proofs.Math.Logic.Iff
 use Rattle.std.proofs.Common.{inl, inr, arith}
 use Rattle.kinds.specs.declared.Answer.{Answer}
 use Rattle.words.specs.Sizes.{Sizes}
@@ -90,8 +90,8 @@ module _ {z : Sizes} (m : Mem z) (s id : ℕ) where
   -- a number of the lines under "Otherwise validate"
   of_commit : (k x : ℕ) → (6 < k) × (k < 15) → ((commit_out m s id).answer ≡ Answer.Refused k x) ↔ (Validating × Refuses (valid_lines m t) k x)
   of_commit k x b =
-      Iff·trans (refused_iff in_answer m _ _ _ (commit_refuses_exactly m s id) k x)
-      (Iff·trans (refuses_past k x (slot_lines m s id) (under (t.writes ≢ []) (valid_lines m t)) (slots_lack m s id k b)) (to, from))
+      Iff.trans (refused_iff in_answer m _ _ _ (commit_refuses_exactly m s id) k x)
+      (Iff.trans (refuses_past k x (slot_lines m s id) (under (t.writes ≢ []) (valid_lines m t)) (slots_lack m s id k b)) (to, from))
     where
       to : NoneOf (slot_lines m s id) × Refuses (under (t.writes ≢ []) (valid_lines m t)) k x → Validating × Refuses (valid_lines m t) k x
       to q =
@@ -185,21 +185,21 @@ module _ {z : Sizes} (m : Mem z) (s id : ℕ) where
 
   nine : (x : ℕ) → Refuses (valid_lines m t) read_conflict x ↔ FirstConflict x
   nine x =
-      Iff·trans (refuses_before read_conflict x (rec_lines ++ whole_lines) (each_of (new_lines m) t.writes) (news_lack read_conflict (omega arith)))
-      (Iff·trans (refuses_before read_conflict x rec_lines whole_lines bases_lack_9) (Iff·trans (refuses_each read_conflict x (record_lines m t) t.recs) (conflict_of x)))
+      Iff.trans (refuses_before read_conflict x (rec_lines ++ whole_lines) (each_of (new_lines m) t.writes) (news_lack read_conflict (omega arith)))
+      (Iff.trans (refuses_before read_conflict x rec_lines whole_lines bases_lack_9) (Iff.trans (refuses_each read_conflict x (record_lines m t) t.recs) (conflict_of x)))
 
   eight : (x : ℕ) → Refuses (valid_lines m t) write_conflict x ↔ (All Stands t.recs × FirstUnready x)
   eight x =
-      Iff·trans (refuses_before write_conflict x (rec_lines ++ whole_lines) (each_of (new_lines m) t.writes) (news_lack write_conflict (omega arith)))
-      (Iff·trans (refuses_past write_conflict x rec_lines whole_lines recs_lack_8)
-      (Iff·and
-      (Iff·trans (none_each (record_lines m t) t.recs) (all_map _ Stands stands t.recs, all_map Stands _ stood t.recs))
-      (Iff·trans (refuses_each write_conflict x (base_lines m) t.writes) (unready_of x))))
+      Iff.trans (refuses_before write_conflict x (rec_lines ++ whole_lines) (each_of (new_lines m) t.writes) (news_lack write_conflict (omega arith)))
+      (Iff.trans (refuses_past write_conflict x rec_lines whole_lines recs_lack_8)
+      (Iff.and
+      (Iff.trans (none_each (record_lines m t) t.recs) (all_map _ Stands stands t.recs, all_map Stands _ stood t.recs))
+      (Iff.trans (refuses_each write_conflict x (base_lines m) t.writes) (unready_of x))))
 
   -- 9: "validation", "first row": "records in order"
   pub commit_refused_9_names_first_conflicting_record : (x : ℕ) → ((commit_out m s id).answer ≡ Answer.Refused read_conflict x) ↔ (Validating × FirstConflict x)
-  commit_refused_9_names_first_conflicting_record x = Iff·trans (of_commit read_conflict x (omega arith)) (Iff·and (λ e. e, λ e. e) (nine x))
+  commit_refused_9_names_first_conflicting_record x = Iff.trans (of_commit read_conflict x (omega arith)) (Iff.and (λ e. e, λ e. e) (nine x))
 
   -- 8: "commit: head or base test fails", with the row; every record stands
   pub commit_refused_8_exactly_when : (x : ℕ) → ((commit_out m s id).answer ≡ Answer.Refused write_conflict x) ↔ (Validating × (All Stands t.recs × FirstUnready x))
-  commit_refused_8_exactly_when x = Iff·trans (of_commit write_conflict x (omega arith)) (Iff·and (λ e. e, λ e. e) (eight x))
+  commit_refused_8_exactly_when x = Iff.trans (of_commit write_conflict x (omega arith)) (Iff.and (λ e. e, λ e. e) (eight x))

@@ -3,7 +3,7 @@
 -- entry or the cell of a read record". And 6, of the calls that name a row. Vacuum's 15 stands with its 14.
 use Rattle.std.specs.Prelude.{ℕ, ◌≤◌, ◌<◌, List, [], ◌∷◌, ◌++◌, ◌≡◌, refl, ◌≢◌, ◌↔◌, ◌⊎◌}
 use Rattle.std.proofs.Math.Option.{Option}
-use Rattle.std.proofs.Math.Logic.{Iff·trans, Iff·and}
+use Rattle.std.proofs.Math.Logic.Iff
 use Rattle.std.proofs.Common.{inl, inr, ⊎_elim, arith}
 use Rattle.kinds.specs.declared.ReadAnswer.{ReadAnswer}
 use Rattle.kinds.specs.declared.Answer.{Answer}
@@ -39,7 +39,7 @@ either_iff h k = (⊎_elim (λ a. inl (h.0 a)) (λ b. inr (k.0 b)), ⊎_elim (λ
 
 module _ {z : Sizes} (m : Mem z) where
   pub begin_refused_15_exactly_when : (x : ℕ) → ((begin_out m).answer ≡ Answer.Refused damaged x) ↔ (StoreDamaged m × (x ≡ 0))
-  begin_refused_15_exactly_when x = Iff·trans (refused_iff in_answer m _ _ _ (begin_refuses_exactly m) damaged x) (to, λ q. inl (q.0, refl, q.1))
+  begin_refused_15_exactly_when x = Iff.trans (refused_iff in_answer m _ _ _ (begin_refuses_exactly m) damaged x) (to, λ q. inl (q.0, refl, q.1))
     where
       to : Refuses (begin_lines m) damaged x → StoreDamaged m × (x ≡ 0)
       to (inl q) = (q.0, q.2)
@@ -73,10 +73,10 @@ module _ {z : Sizes} (m : Mem z) where
 
   module _ (s id row : ℕ) where
     row_15 : (x : ℕ) → Refuses (row_lines m s id row) damaged x ↔ (SlotDamaged s id × (x ≡ 0))
-    row_15 x = Iff·trans (refuses_before damaged x (slot_lines m s id) (row_line m row ∷ []) (λ e. omega arith, tt)) (slot_15 s id x)
+    row_15 x = Iff.trans (refuses_before damaged x (slot_lines m s id) (row_line m row ∷ []) (λ e. omega arith, tt)) (slot_15 s id x)
 
     row_6 : (x : ℕ) → Refuses (row_lines m s id row) bad_row x ↔ (NoneOf (slot_lines m s id) × ((size_r m ≤ row) × (x ≡ row)))
-    row_6 x = Iff·trans (refuses_past bad_row x (slot_lines m s id) (row_line m row ∷ []) (λ e. omega arith, (λ e. omega arith, (λ e. omega arith, (λ e. omega arith, tt))))) (Iff·and (λ e. e, λ e. e) (to, λ q. inl (q.0, refl, q.1)))
+    row_6 x = Iff.trans (refuses_past bad_row x (slot_lines m s id) (row_line m row ∷ []) (λ e. omega arith, (λ e. omega arith, (λ e. omega arith, (λ e. omega arith, tt))))) (Iff.and (λ e. e, λ e. e) (to, λ q. inl (q.0, refl, q.1)))
       where
         to : Refuses (row_line m row ∷ []) bad_row x → (size_r m ≤ row) × (x ≡ row)
         to (inl q) = (q.0, q.2)
@@ -86,8 +86,8 @@ module _ {z : Sizes} (m : Mem z) where
 
     pub read_refused_6_exactly_when : (x : ℕ) → ((read_out m s id row).answer ≡ ReadAnswer.Refused bad_row x) ↔ (NoneOf (slot_lines m s id) × ((size_r m ≤ row) × (x ≡ row)))
     read_refused_6_exactly_when x =
-        Iff·trans (refused_iff in_read m _ _ _ (read_refuses_exactly m s id row) bad_row x)
-        (Iff·trans (refuses_before bad_row x (row_lines m s id row) (sight_lines_at m s id row) (λ e. omega arith, (λ e. omega arith, (λ e. omega arith, (λ e. omega arith, tt))))) (row_6 x))
+        Iff.trans (refused_iff in_read m _ _ _ (read_refuses_exactly m s id row) bad_row x)
+        (Iff.trans (refuses_before bad_row x (row_lines m s id row) (sight_lines_at m s id row) (λ e. omega arith, (λ e. omega arith, (λ e. omega arith, (λ e. omega arith, tt))))) (row_6 x))
 
     -- the own write's cell, or a pointer above N before a version is seen
     abbrev pub ReadHarmed : Type 0
@@ -119,15 +119,15 @@ module _ {z : Sizes} (m : Mem z) where
 
     pub read_refused_15_exactly_when : (x : ℕ) → ((read_out m s id row).answer ≡ ReadAnswer.Refused damaged x) ↔ ((SlotDamaged s id × (x ≡ 0)) ⊎ (NoneOf (row_lines m s id row) × (ReadHarmed × (x ≡ 0))))
     read_refused_15_exactly_when x =
-        Iff·trans (refused_iff in_read m _ _ _ (read_refuses_exactly m s id row) damaged x)
-        (Iff·trans (refuses_append damaged x (row_lines m s id row) (sight_lines_at m s id row)) (either_iff (row_15 x) (Iff·and (λ e. e, λ e. e) (sight_15 x))))
+        Iff.trans (refused_iff in_read m _ _ _ (read_refuses_exactly m s id row) damaged x)
+        (Iff.trans (refuses_append damaged x (row_lines m s id row) (sight_lines_at m s id row)) (either_iff (row_15 x) (Iff.and (λ e. e, λ e. e) (sight_15 x))))
 
     -- ---- write
 
     pub write_refused_6_exactly_when : (v : Option ℕ) (x : ℕ) → ((write_out m s id row v).answer ≡ Answer.Refused bad_row x) ↔ (NoneOf (slot_lines m s id) × ((size_r m ≤ row) × (x ≡ row)))
     write_refused_6_exactly_when v x =
-        Iff·trans (refused_iff in_answer m _ _ _ (write_refuses_exactly m s id row v) bad_row x)
-        (Iff·trans (refuses_before bad_row x (row_lines m s id row) (now_lines m s id row) (λ e. omega arith, (λ e. omega arith, (λ e. omega arith, (λ e. omega arith, (λ e. omega arith, (λ e. omega arith, (λ e. omega arith, tt)))))))) (row_6 x))
+        Iff.trans (refused_iff in_answer m _ _ _ (write_refuses_exactly m s id row v) bad_row x)
+        (Iff.trans (refuses_before bad_row x (row_lines m s id row) (now_lines m s id row) (λ e. omega arith, (λ e. omega arith, (λ e. omega arith, (λ e. omega arith, (λ e. omega arith, (λ e. omega arith, (λ e. omega arith, tt)))))))) (row_6 x))
 
     -- the own entry's cell; or, where an entry is to be added, the head; or, where one is added, the first free cell
     abbrev pub WriteHarmed : Type 0
@@ -174,8 +174,8 @@ module _ {z : Sizes} (m : Mem z) where
 
     pub write_refused_15_exactly_when : (v : Option ℕ) (x : ℕ) → ((write_out m s id row v).answer ≡ Answer.Refused damaged x) ↔ ((SlotDamaged s id × (x ≡ 0)) ⊎ (NoneOf (row_lines m s id row) × (WriteHarmed × (x ≡ 0))))
     write_refused_15_exactly_when v x =
-        Iff·trans (refused_iff in_answer m _ _ _ (write_refuses_exactly m s id row v) damaged x)
-        (Iff·trans (refuses_append damaged x (row_lines m s id row) (now_lines m s id row)) (either_iff (row_15 x) (Iff·and (λ e. e, λ e. e) (now_15 x))))
+        Iff.trans (refused_iff in_answer m _ _ _ (write_refuses_exactly m s id row v) damaged x)
+        (Iff.trans (refuses_append damaged x (row_lines m s id row) (now_lines m s id row)) (either_iff (row_15 x) (Iff.and (λ e. e, λ e. e) (now_15 x))))
 
   -- ---- commit
 
@@ -215,7 +215,7 @@ module _ {z : Sizes} (m : Mem z) where
     CommitHarmed = RecordLost ⊎ ((All (Stands m s id) t.recs × WriteLost) ⊎ ((All (Stands m s id) t.recs × All (Ready m s id) t.writes) × NewLost))
 
     recs_15 : (x : ℕ) → Refuses (each_of (record_lines m t) t.recs) damaged x ↔ (RecordLost × (x ≡ 0))
-    recs_15 x = Iff·trans (refuses_each damaged x (record_lines m t) t.recs) ((λ q. to q q.refuses), λ q. back q.0 q.1)
+    recs_15 x = Iff.trans (refuses_each damaged x (record_lines m t) t.recs) ((λ q. to q q.refuses), λ q. back q.0 q.1)
       where
         to : (q : FirstOf damaged x (record_lines m t) t.recs) → Refuses (record_lines m t q.member) damaged x → RecordLost × (x ≡ 0)
         to q (inl r) = (record { before = q.before; lost = q.member; after = q.after; parts = q.parts; stand = all_map _ (Stands m s id) (stands m s id) q.before q.fine; no_cell = r.0 }, r.2)
@@ -226,7 +226,7 @@ module _ {z : Sizes} (m : Mem z) where
         back q e = record { before = q.before; member = q.lost; after = q.after; parts = q.parts; fine = all_map (Stands m s id) _ (stood m s id) q.before q.stand; refuses = inl (q.no_cell, refl, e) }
 
     bases_15 : (x : ℕ) → Refuses (each_of (base_lines m) t.writes) damaged x ↔ (WriteLost × (x ≡ 0))
-    bases_15 x = Iff·trans (refuses_each damaged x (base_lines m) t.writes) ((λ q. to q q.refuses), λ q. back q.0 q.0.damage q.1)
+    bases_15 x = Iff.trans (refuses_each damaged x (base_lines m) t.writes) ((λ q. to q q.refuses), λ q. back q.0 q.0.damage q.1)
       where
         told : (q : FirstOf damaged x (base_lines m) t.writes) → (size_r m ≤ q.member.row) ⊎ ((q.member.row < size_r m) × (head_at m q.member.row ≡ q.member.base) × (size_n m < q.member.base)) → WriteLost
         told q d = record { before = q.before; lost = q.member; after = q.after; parts = q.parts; ready = all_map _ (Ready m s id) (is_ready m s id) q.before q.fine; damage = d }
@@ -247,7 +247,7 @@ module _ {z : Sizes} (m : Mem z) where
         back q (inr d) e = shown q (inr (λ y. omega (arith, y, d.0), inr (λ y. y d.1, inl (d.2, refl, e))))
 
     news_15 : (x : ℕ) → Refuses (each_of (new_lines m) t.writes) damaged x ↔ (NewLost × (x ≡ 0))
-    news_15 x = Iff·trans (refuses_each damaged x (new_lines m) t.writes) ((λ q. to q q.refuses), λ q. back q.0 q.1)
+    news_15 x = Iff.trans (refuses_each damaged x (new_lines m) t.writes) ((λ q. to q q.refuses), λ q. back q.0 q.1)
       where
         to : (q : FirstOf damaged x (new_lines m) t.writes) → Refuses (new_lines m q.member) damaged x → NewLost × (x ≡ 0)
         to q (inl r) = (record { before = q.before; lost = q.member; after = q.after; parts = q.parts; cells = all_map _ (λ (w : Write). CellOf (size_n m) w.new) (λ w n. cell_of m s id w.new n.0) q.before q.fine; no_cell = r.0 }, r.2)
@@ -257,21 +257,21 @@ module _ {z : Sizes} (m : Mem z) where
         back q e = record { before = q.before; member = q.lost; after = q.after; parts = q.parts; fine = all_map (λ (w : Write). CellOf (size_n m) w.new) _ (λ w c. (λ n. n c, tt)) q.before q.cells; refuses = inl (q.no_cell, refl, e) }
 
     all_stand : NoneOf (each_of (record_lines m t) t.recs) ↔ All (Stands m s id) t.recs
-    all_stand = Iff·trans (none_each (record_lines m t) t.recs) (all_map _ (Stands m s id) (stands m s id) t.recs, all_map (Stands m s id) _ (stood m s id) t.recs)
+    all_stand = Iff.trans (none_each (record_lines m t) t.recs) (all_map _ (Stands m s id) (stands m s id) t.recs, all_map (Stands m s id) _ (stood m s id) t.recs)
 
     all_ready : NoneOf (each_of (base_lines m) t.writes) ↔ All (Ready m s id) t.writes
-    all_ready = Iff·trans (none_each (base_lines m) t.writes) (all_map _ (Ready m s id) (is_ready m s id) t.writes, all_map (Ready m s id) _ (ready_is m s id) t.writes)
+    all_ready = Iff.trans (none_each (base_lines m) t.writes) (all_map _ (Ready m s id) (is_ready m s id) t.writes, all_map (Ready m s id) _ (ready_is m s id) t.writes)
 
     valid_15 : (x : ℕ) → Refuses (valid_lines m t) damaged x ↔ (CommitHarmed × (x ≡ 0))
     valid_15 x =
         let recs = each_of (record_lines m t) t.recs in
         let bases = each_of (base_lines m) t.writes in
         let news = each_of (new_lines m) t.writes in
-        Iff·trans (refuses_append damaged x (recs ++ bases) news)
-        (Iff·trans
+        Iff.trans (refuses_append damaged x (recs ++ bases) news)
+        (Iff.trans
         (either_iff
-        (Iff·trans (refuses_append damaged x recs bases) (either_iff (recs_15 x) (Iff·and all_stand (bases_15 x))))
-        (Iff·and (Iff·trans (none_append recs bases) (Iff·and all_stand all_ready)) (news_15 x)))
+        (Iff.trans (refuses_append damaged x recs bases) (either_iff (recs_15 x) (Iff.and all_stand (bases_15 x))))
+        (Iff.and (Iff.trans (none_append recs bases) (Iff.and all_stand all_ready)) (news_15 x)))
         (to, λ q. back q.0 q.1))
       where
         to : ((RecordLost × (x ≡ 0)) ⊎ (All (Stands m s id) t.recs × (WriteLost × (x ≡ 0)))) ⊎ ((All (Stands m s id) t.recs × All (Ready m s id) t.writes) × (NewLost × (x ≡ 0))) → CommitHarmed × (x ≡ 0)
@@ -286,9 +286,9 @@ module _ {z : Sizes} (m : Mem z) where
 
     pub commit_refused_15_exactly_when : (x : ℕ) → ((commit_out m s id).answer ≡ Answer.Refused damaged x) ↔ ((SlotDamaged s id × (x ≡ 0)) ⊎ (NoneOf (slot_lines m s id) × ((t.writes ≢ []) × (CommitHarmed × (x ≡ 0)))))
     commit_refused_15_exactly_when x =
-        Iff·trans (refused_iff in_answer m _ _ _ (commit_refuses_exactly m s id) damaged x)
-        (Iff·trans (refuses_append damaged x (slot_lines m s id) (under (t.writes ≢ []) (valid_lines m t)))
-        (either_iff (slot_15 s id x) (Iff·and (λ e. e, λ e. e) (Iff·trans (refuses_under (t.writes ≢ []) (valid_lines m t) damaged x) (Iff·and (λ e. e, λ e. e) (valid_15 x))))))
+        Iff.trans (refused_iff in_answer m _ _ _ (commit_refuses_exactly m s id) damaged x)
+        (Iff.trans (refuses_append damaged x (slot_lines m s id) (under (t.writes ≢ []) (valid_lines m t)))
+        (either_iff (slot_15 s id x) (Iff.and (λ e. e, λ e. e) (Iff.trans (refuses_under (t.writes ≢ []) (valid_lines m t) damaged x) (Iff.and (λ e. e, λ e. e) (valid_15 x))))))
 
     -- ---- abort
 
@@ -307,7 +307,7 @@ module _ {z : Sizes} (m : Mem z) where
       pub damage : (size_n m < lost.base) ⊎ ((lost.base ≤ size_n m) × (CellOf (size_n m) lost.new → ⊥))
 
     undo_15 : (x : ℕ) → Refuses (each_of (undo_lines m) t.writes) damaged x ↔ (UndoLost × (x ≡ 0))
-    undo_15 x = Iff·trans (refuses_each damaged x (undo_lines m) t.writes) ((λ q. to q q.refuses), λ q. back q.0 q.0.damage q.1)
+    undo_15 x = Iff.trans (refuses_each damaged x (undo_lines m) t.writes) ((λ q. to q q.refuses), λ q. back q.0 q.0.damage q.1)
       where
         told : (q : FirstOf damaged x (undo_lines m) t.writes) → (size_n m < q.member.base) ⊎ ((q.member.base ≤ size_n m) × (CellOf (size_n m) q.member.new → ⊥)) → UndoLost
         told q d =
@@ -334,13 +334,13 @@ module _ {z : Sizes} (m : Mem z) where
 
     pub abort_refused_15_exactly_when : (x : ℕ) → ((abort_out m s id).answer ≡ Answer.Refused damaged x) ↔ ((SlotDamaged s id × (x ≡ 0)) ⊎ (NoneOf (slot_lines m s id) × (UndoLost × (x ≡ 0))))
     abort_refused_15_exactly_when x =
-        Iff·trans (refused_iff in_answer m _ _ _ (abort_refuses_exactly m s id) damaged x)
-        (Iff·trans (refuses_append damaged x (slot_lines m s id) (each_of (undo_lines m) t.writes)) (either_iff (slot_15 s id x) (Iff·and (λ e. e, λ e. e) (undo_15 x))))
+        Iff.trans (refused_iff in_answer m _ _ _ (abort_refuses_exactly m s id) damaged x)
+        (Iff.trans (refuses_append damaged x (slot_lines m s id) (each_of (undo_lines m) t.writes)) (either_iff (slot_15 s id x) (Iff.and (λ e. e, λ e. e) (undo_15 x))))
 
   -- ---- vacuum
 
   pub vacuum_refused_6_exactly_when : (row request room x : ℕ) → ((vacuum_out m row request room).answer ≡ Answer.Refused bad_row x) ↔ ((StoreDamaged m → ⊥) × (size_r m ≤ row) × (x ≡ row))
-  vacuum_refused_6_exactly_when row request room x = Iff·trans (refused_iff in_answer m _ _ _ (vacuum_refuses_exactly m row request room) bad_row x) (to, λ q. inr (q.0, inl (q.1, refl, q.2)))
+  vacuum_refused_6_exactly_when row request room x = Iff.trans (refused_iff in_answer m _ _ _ (vacuum_refuses_exactly m row request room) bad_row x) (to, λ q. inr (q.0, inl (q.1, refl, q.2)))
     where
       to : Refuses (vacuum_lines m row request room) bad_row x → (StoreDamaged m → ⊥) × (size_r m ≤ row) × (x ≡ row)
       to (inl q) = absurd (omega (arith, q.1))

@@ -2,7 +2,7 @@
 -- counts, row, then the call's steps as told." Then 4, 5, 1, 3 and 2, each alone; 6 stands with 15.
 use Rattle.std.specs.Prelude.{ℕ, ◌≤◌, ◌<◌, List, [], ◌∷◌, ◌++◌, ◌≡◌, refl, ◌≢◌, ◌↔◌, ◌⊎◌}
 use Rattle.std.proofs.Common.{subst, inl, inr, arith}
-use Rattle.std.proofs.Math.Logic.{Iff·trans}
+use Rattle.std.proofs.Math.Logic.Iff
 use Rattle.kinds.specs.declared.ReadAnswer.{ReadAnswer}
 use Rattle.kinds.specs.declared.Answer.{Answer}
 use Rattle.words.specs.Sizes.{Sizes, last_id}
@@ -55,7 +55,7 @@ module _ {z : Sizes} where
 
   -- with the order said: a line of the call's table applies, and no earlier refusal applies
   pub refused_exactly_by_the_first_line : (c : Call) (m : Mem z) (k x : ℕ) → RefusedAs (step c m).reply k x ↔ FirstLine k x (table_of c m)
-  refused_exactly_by_the_first_line c m k x = Iff·trans (refused_exactly_by_the_table c m k x) (refuses_first_line k x (table_of c m))
+  refused_exactly_by_the_first_line c m k x = Iff.trans (refused_exactly_by_the_table c m k x) (refuses_first_line k x (table_of c m))
 
 -- ---- 4 and 5, of every call that names a slot and an id
 
@@ -118,8 +118,8 @@ module _ {z : Sizes} (m : Mem z) where
 
   of_slot : (c : Call) (s id k x : ℕ) → NamesSlot c s id → k < 6 → RefusedAs (step c m).reply k x ↔ Refuses (slot_lines m s id) k x
   of_slot c s id k x h b =
-      Iff·trans (refused_exactly_by_the_table c m k x)
-      (Iff·trans (subst (λ (l : List Line). Refuses (table_of c m) k x ↔ Refuses l k x) (slot_first c s id h) (λ q. q, λ q. q)) (refuses_before k x (slot_lines m s id) (rest_of c) (rest_lacks c k b)))
+      Iff.trans (refused_exactly_by_the_table c m k x)
+      (Iff.trans (subst (λ (l : List Line). Refuses (table_of c m) k x ↔ Refuses l k x) (slot_first c s id h) (λ q. q, λ q. q)) (refuses_before k x (slot_lines m s id) (rest_of c) (rest_lacks c k b)))
 
   -- the store is sound: its sizes fit and its clock is not 0
   abbrev pub Sound : Type 0
@@ -127,7 +127,7 @@ module _ {z : Sizes} (m : Mem z) where
 
   -- 4: "slot 16 or more"
   pub refused_4_exactly_when : (c : Call) (s id x : ℕ) → NamesSlot c s id → RefusedAs (step c m).reply bad_slot x ↔ (Sound × (z.slots ≤ s) × (x ≡ 0))
-  refused_4_exactly_when c s id x h = Iff·trans (of_slot c s id bad_slot x h (omega arith)) (to, λ q. inr (q.0, inl (q.1, refl, q.2)))
+  refused_4_exactly_when c s id x h = Iff.trans (of_slot c s id bad_slot x h (omega arith)) (to, λ q. inr (q.0, inl (q.1, refl, q.2)))
     where
       to : Refuses (slot_lines m s id) bad_slot x → Sound × (z.slots ≤ s) × (x ≡ 0)
       to (inl q) = absurd (omega (arith, q.1))
@@ -138,7 +138,7 @@ module _ {z : Sizes} (m : Mem z) where
 
   -- 5: "presented id is 0 or not the slot's", with the "id found"
   pub refused_5_exactly_when : (c : Call) (s id x : ℕ) → NamesSlot c s id → RefusedAs (step c m).reply not_owner x ↔ (Sound × (s < z.slots) × ((id ≡ 0) ⊎ (id ≢ id_at m s)) × (x ≡ id_at m s))
-  refused_5_exactly_when c s id x h = Iff·trans (of_slot c s id not_owner x h (omega arith)) (to, λ q. inr (q.0, inr (λ b. omega (arith, q.1), inl (q.2, refl, q.3))))
+  refused_5_exactly_when c s id x h = Iff.trans (of_slot c s id not_owner x h (omega arith)) (to, λ q. inr (q.0, inr (λ b. omega (arith, q.1), inl (q.2, refl, q.3))))
     where
       to : Refuses (slot_lines m s id) not_owner x → Sound × (s < z.slots) × ((id ≡ 0) ⊎ (id ≢ id_at m s)) × (x ≡ id_at m s)
       to (inl q) = absurd (omega (arith, q.1))
@@ -151,7 +151,7 @@ module _ {z : Sizes} (m : Mem z) where
 
   -- 1: "R or N out of range, or a lent length too short for them"
   pub create_refused_1_exactly_when : (n r x : ℕ) → RefusedAs (step (create n r) m).reply bad_size x ↔ ((Fitting m r n → ⊥) × (x ≡ 0))
-  create_refused_1_exactly_when n r x = Iff·trans (refused_exactly_by_the_table (create n r) m bad_size x) (to, λ q. inl (q.0, refl, q.1))
+  create_refused_1_exactly_when n r x = Iff.trans (refused_exactly_by_the_table (create n r) m bad_size x) (to, λ q. inl (q.0, refl, q.1))
     where
       to : Refuses (create_lines m n r) bad_size x → (Fitting m r n → ⊥) × (x ≡ 0)
       to (inl q) = (q.0, q.2)
@@ -159,7 +159,7 @@ module _ {z : Sizes} (m : Mem z) where
 
   -- 3: "begin, 16 occupied"
   pub begin_refused_3_exactly_when : (x : ℕ) → RefusedAs (step begin m).reply no_free_slot x ↔ (Sound × AllOccupied z.slots m.slots × (x ≡ 0))
-  begin_refused_3_exactly_when x = Iff·trans (refused_exactly_by_the_table begin m no_free_slot x) (to, λ q. inr (q.0, inl (q.1, refl, q.2)))
+  begin_refused_3_exactly_when x = Iff.trans (refused_exactly_by_the_table begin m no_free_slot x) (to, λ q. inr (q.0, inl (q.1, refl, q.2)))
     where
       to : Refuses (begin_lines m) no_free_slot x → Sound × AllOccupied z.slots m.slots × (x ≡ 0)
       to (inl q) = absurd (omega (arith, q.1))
@@ -169,7 +169,7 @@ module _ {z : Sizes} (m : Mem z) where
 
   -- 2: "begin, clock is 2^64-1", "3 before 2"
   pub begin_refused_2_exactly_when : (x : ℕ) → RefusedAs (step begin m).reply clock_spent x ↔ (Sound × (AllOccupied z.slots m.slots → ⊥) × (clock m ≡ last_id) × (x ≡ 0))
-  begin_refused_2_exactly_when x = Iff·trans (refused_exactly_by_the_table begin m clock_spent x) (to, λ q. inr (q.0, inr (q.1, inl (q.2, refl, q.3))))
+  begin_refused_2_exactly_when x = Iff.trans (refused_exactly_by_the_table begin m clock_spent x) (to, λ q. inr (q.0, inr (q.1, inl (q.2, refl, q.3))))
     where
       to : Refuses (begin_lines m) clock_spent x → Sound × (AllOccupied z.slots m.slots → ⊥) × (clock m ≡ last_id) × (x ≡ 0)
       to (inl q) = absurd (omega (arith, q.1))

@@ -1,6 +1,6 @@
 -- "Horizon: least of the request, the clock and the snapshot xmin of all occupied slots": at most each of them, and equal to one.
 use Rattle.std.specs.Prelude.{ℕ, zero, suc, min, ◌≤◌, ◌<◌, List, [], ◌∷◌, ◌≡◌, refl, ◌≢◌, ◌↔◌, ◌⊎◌, length, get_or}
-use Rattle.std.proofs.Common.{◌∙◌, arith, eq-eqb, ne_eqb}
+use Rattle.std.proofs.Common.{◌∙◌, arith, eq-eqb, ne_eqb, subst, sym}
 use Rattle.std.proofs.Math.Logic.{inl, inr, ⊎_elim}
 use Rattle.words.specs.Sizes.{ID, LOW}
 use Rattle.words.specs.Lists.{least}
@@ -28,7 +28,7 @@ least_is_one c (x ∷ l) = by_le x (least c l)
     (λ b. inr (inl (omega arith)))
     (λ b.
     let e : min x (least c l) ≡ least c l = omega arith in
-    rw e (⊎_elim inl (λ i. inr (inr i)) (least_is_one c l)))
+    subst (λ (y : ℕ). (y ≡ c) ⊎ In y (x ∷ l)) (sym e) (⊎_elim inl (λ i. inr (inr i)) (least_is_one c l)))
 
 -- ---- the occupied slots
 

@@ -2,7 +2,7 @@
 -- last within a row".
 use Rattle.std.specs.Prelude.{ℕ, ◌≤◌, ◌<◌, List, [], ◌∷◌, ◌++◌, ◌≡◌, refl, ◌↔◌, ◌⊎◌, length}
 use Rattle.std.proofs.Common.{sym, ap, ◌∙◌, subst, inl, inr, ⊎_elim, arith}
-use Rattle.std.proofs.Math.Logic.{Iff·trans, Iff·and}
+use Rattle.std.proofs.Math.Logic.Iff
 use Rattle.kinds.specs.declared.Answer.{Answer}
 use Rattle.words.specs.Sizes.{Sizes}
 use Rattle.rules.specs.Numbers.{bad_row, result_full, damaged}
@@ -61,13 +61,13 @@ module _ {z : Sizes} (m : Mem z) (s id key : ℕ) (cands : List ℕ) (room : ℕ
   lookup_refused_6_names_the_first_such_candidate x =
       let rows = find_lines m (slot_at m s) key room [] [] (rows_to_read m (slot_at m s).writes cands) in
       let late = each_of (own_row_lines m) (own_rows (slot_at m s).writes) in
-      Iff·trans (refused_iff in_answer m _ _ _ (lookup_refuses_exactly m s id key cands room) bad_row x)
-      (Iff·trans
+      Iff.trans (refused_iff in_answer m _ _ _ (lookup_refuses_exactly m s id key cands room) bad_row x)
+      (Iff.trans
       (refuses_before bad_row x (slot_lines m s id ++ each_of (candidate_lines m) cands) (rows ++ late)
       (lacks_append bad_row rows late (find_lacks m (slot_at m s) key room bad_row (omega arith) (rows_to_read m (slot_at m s).writes cands) [] []) (lacks_each bad_row (own_row_lines m) (λ r. (λ e. omega arith, tt)) (own_rows (slot_at m s).writes))))
-      (Iff·trans
+      (Iff.trans
       (refuses_past bad_row x (slot_lines m s id) (each_of (candidate_lines m) cands) (λ e. omega arith, (λ e. omega arith, (λ e. omega arith, (λ e. omega arith, tt)))))
-      (Iff·and (λ e. e, λ e. e) (Iff·trans (refuses_each bad_row x (candidate_lines m) cands) (above_of x)))))
+      (Iff.and (λ e. e, λ e. e) (Iff.trans (refuses_each bad_row x (candidate_lines m) cands) (above_of x)))))
 
 -- ---- 15 for an own row
 
@@ -247,31 +247,31 @@ lookup_refused_within_the_rows m s id key cands room k x b =
     let l = rows_to_read m (slot_at m s).writes cands in
     let rows = find_lines m (slot_at m s) key room [] [] l in
     let late = each_of (own_row_lines m) (own_rows (slot_at m s).writes) in
-    Iff·trans (refused_iff in_answer m _ _ _ (lookup_refuses_exactly m s id key cands room) k x)
-    (Iff·trans
+    Iff.trans (refused_iff in_answer m _ _ _ (lookup_refuses_exactly m s id key cands room) k x)
+    (Iff.trans
     (refuses_past k x (slot_lines m s id ++ each_of (candidate_lines m) cands) (rows ++ late)
     (lacks_append k (slot_lines m s id) (each_of (candidate_lines m) cands) (slots_lack m s id k b) (lacks_each k (candidate_lines m) (λ r. ((λ e. omega (arith, e, b.0)), tt)) cands)))
-    (Iff·and (λ e. e, λ e. e)
-    (Iff·trans (refuses_before k x rows late (lacks_each k (own_row_lines m) (λ r. ((λ e. omega (arith, e, b.1)), tt)) (own_rows (slot_at m s).writes))) (lookup_stops_at_the_first_trouble m s key room l k x))))
+    (Iff.and (λ e. e, λ e. e)
+    (Iff.trans (refuses_before k x rows late (lacks_each k (own_row_lines m) (λ r. ((λ e. omega (arith, e, b.1)), tt)) (own_rows (slot_at m s).writes))) (lookup_stops_at_the_first_trouble m s key room l k x))))
 
 -- the same of all rows
 pub lookup_all_refused_within_the_rows : {z : Sizes} (m : Mem z) (s id key room k x : ℕ) → (6 < k) × (k < 15) →
     ((lookup_all_out m s id key room).answer ≡ Answer.Refused k x) ↔ (NoneOf (slot_lines m s id) × FirstTrouble m s key room [] [] (from 0 (size_r m)) k x)
 lookup_all_refused_within_the_rows m s id key room k x b =
     let rows = find_lines m (slot_at m s) key room [] [] (from 0 (size_r m)) in
-    Iff·trans (refused_iff in_answer m _ _ _ (lookup_all_refuses_exactly m s id key room) k x)
-    (Iff·trans (refuses_past k x (slot_lines m s id) (rows ++ []) (slots_lack m s id k b))
-    (Iff·and (λ e. e, λ e. e) (Iff·trans (refuses_before k x rows [] tt) (lookup_stops_at_the_first_trouble m s key room (from 0 (size_r m)) k x))))
+    Iff.trans (refused_iff in_answer m _ _ _ (lookup_all_refuses_exactly m s id key room) k x)
+    (Iff.trans (refuses_past k x (slot_lines m s id) (rows ++ []) (slots_lack m s id k b))
+    (Iff.and (λ e. e, λ e. e) (Iff.trans (refuses_before k x rows [] tt) (lookup_stops_at_the_first_trouble m s key room (from 0 (size_r m)) k x))))
 
 -- 14: "list longer than its buffer", of the candidates and own rows
 pub lookup_refused_14_exactly_when : {z : Sizes} (m : Mem z) (s id key : ℕ) (cands : List ℕ) (room x : ℕ) →
     ((lookup_out m s id key cands room).answer ≡ Answer.Refused result_full x) ↔ (NoneOf (slot_lines m s id ++ each_of (candidate_lines m) cands) × (FirstUnplaced m s key room (rows_to_read m (slot_at m s).writes cands) × (x ≡ 0)))
-lookup_refused_14_exactly_when m s id key cands room x = Iff·trans (lookup_refused_within_the_rows m s id key cands room result_full x (omega arith)) (Iff·and (λ e. e, λ e. e) (unplaced m s key room (rows_to_read m (slot_at m s).writes cands) x))
+lookup_refused_14_exactly_when m s id key cands room x = Iff.trans (lookup_refused_within_the_rows m s id key cands room result_full x (omega arith)) (Iff.and (λ e. e, λ e. e) (unplaced m s key room (rows_to_read m (slot_at m s).writes cands) x))
 
 -- 14 of all rows
 pub lookup_all_refused_14_exactly_when : {z : Sizes} (m : Mem z) (s id key room x : ℕ) →
     ((lookup_all_out m s id key room).answer ≡ Answer.Refused result_full x) ↔ (NoneOf (slot_lines m s id) × (FirstUnplaced m s key room (from 0 (size_r m)) × (x ≡ 0)))
-lookup_all_refused_14_exactly_when m s id key room x = Iff·trans (lookup_all_refused_within_the_rows m s id key room result_full x (omega arith)) (Iff·and (λ e. e, λ e. e) (unplaced m s key room (from 0 (size_r m)) x))
+lookup_all_refused_14_exactly_when m s id key room x = Iff.trans (lookup_all_refused_within_the_rows m s id key room result_full x (omega arith)) (Iff.and (λ e. e, λ e. e) (unplaced m s key room (from 0 (size_r m)) x))
 
 -- 15 of a lookup: the head of the call; or the first trouble in row order; or, no row below R having any, an own row at R or above, which
 -- would be read last
@@ -285,19 +285,19 @@ lookup_refused_15_exactly_when m s id key cands room x =
     let l = rows_to_read m (slot_at m s).writes cands in
     let rows = find_lines m (slot_at m s) key room [] [] l in
     let late = each_of (own_row_lines m) (own_rows (slot_at m s).writes) in
-    Iff·trans (refused_iff in_answer m _ _ _ (lookup_refuses_exactly m s id key cands room) damaged x)
-    (Iff·trans (refuses_append damaged x (slot_lines m s id ++ each_of (candidate_lines m) cands) (rows ++ late))
+    Iff.trans (refused_iff in_answer m _ _ _ (lookup_refuses_exactly m s id key cands room) damaged x)
+    (Iff.trans (refuses_append damaged x (slot_lines m s id ++ each_of (candidate_lines m) cands) (rows ++ late))
     (either_iff
-    (Iff·trans (refuses_before damaged x (slot_lines m s id) (each_of (candidate_lines m) cands) (lacks_each damaged (candidate_lines m) (λ r. (λ e. omega arith, tt)) cands)) (slot_15 m s id x))
-    (Iff·and (λ e. e, λ e. e)
-    (Iff·trans (refuses_append damaged x rows late)
-    (either_iff (lookup_stops_at_the_first_trouble m s key room l damaged x) (Iff·and (λ e. e, λ e. e) (own_row_15 m (own_rows (slot_at m s).writes) x)))))))
+    (Iff.trans (refuses_before damaged x (slot_lines m s id) (each_of (candidate_lines m) cands) (lacks_each damaged (candidate_lines m) (λ r. (λ e. omega arith, tt)) cands)) (slot_15 m s id x))
+    (Iff.and (λ e. e, λ e. e)
+    (Iff.trans (refuses_append damaged x rows late)
+    (either_iff (lookup_stops_at_the_first_trouble m s key room l damaged x) (Iff.and (λ e. e, λ e. e) (own_row_15 m (own_rows (slot_at m s).writes) x)))))))
 
 -- 15 of a lookup over all rows
 pub lookup_all_refused_15_exactly_when : {z : Sizes} (m : Mem z) (s id key room x : ℕ) →
     ((lookup_all_out m s id key room).answer ≡ Answer.Refused damaged x) ↔ ((SlotDamaged m s id × (x ≡ 0)) ⊎ (NoneOf (slot_lines m s id) × FirstTrouble m s key room [] [] (from 0 (size_r m)) damaged x))
 lookup_all_refused_15_exactly_when m s id key room x =
     let rows = find_lines m (slot_at m s) key room [] [] (from 0 (size_r m)) in
-    Iff·trans (refused_iff in_answer m _ _ _ (lookup_all_refuses_exactly m s id key room) damaged x)
-    (Iff·trans (refuses_append damaged x (slot_lines m s id) (rows ++ []))
-    (either_iff (slot_15 m s id x) (Iff·and (λ e. e, λ e. e) (Iff·trans (refuses_before damaged x rows [] tt) (lookup_stops_at_the_first_trouble m s key room (from 0 (size_r m)) damaged x)))))
+    Iff.trans (refused_iff in_answer m _ _ _ (lookup_all_refuses_exactly m s id key room) damaged x)
+    (Iff.trans (refuses_append damaged x (slot_lines m s id) (rows ++ []))
+    (either_iff (slot_15 m s id x) (Iff.and (λ e. e, λ e. e) (Iff.trans (refuses_before damaged x rows [] tt) (lookup_stops_at_the_first_trouble m s key room (from 0 (size_r m)) damaged x)))))

@@ -2,7 +2,7 @@
 -- Refusal 10 is also said of the row's chain taken whole.
 use Rattle.std.specs.Prelude.{ℕ, zero, suc, ◌≤◌, ◌<◌, List, [], ◌∷◌, ◌≡◌, refl, ◌≢◌, ◌↔◌, length, take}
 use Rattle.std.proofs.Common.{sym, ap, ◌∙◌, subst, inl, inr, arith}
-use Rattle.std.proofs.Math.Logic.{Iff·trans, Iff·and}
+use Rattle.std.proofs.Math.Logic.Iff
 use Rattle.kinds.specs.declared.Version.{Version}
 use Rattle.kinds.specs.declared.ReadAnswer.{ReadAnswer}
 use Rattle.words.specs.Sizes.{Sizes}
@@ -108,20 +108,20 @@ module _ {z : Sizes} (m : Mem z) (s id row : ℕ) where
   -- seen, and a further pointer follows them
   pub read_refused_10_exactly_when : (x : ℕ) → ((read_out m s id row).answer ≡ ReadAnswer.Refused chain_too_long x) ↔ (Earlier × (NoOwn × TooLong (size_n m) (version_at m.cells) (slot_at m s) z.walk (head_at m row) × (x ≡ row)))
   read_refused_10_exactly_when x =
-      Iff·trans (refused_iff in_read m _ _ _ (read_refuses_exactly m s id row) chain_too_long x)
-      (Iff·trans (refuses_past chain_too_long x (row_lines m s id row) (sight_lines_at m s id row) (rows_lack m s id row chain_too_long (omega arith)))
-      (Iff·and (λ e. e, λ e. e) (ten_of_sight x)))
+      Iff.trans (refused_iff in_read m _ _ _ (read_refuses_exactly m s id row) chain_too_long x)
+      (Iff.trans (refuses_past chain_too_long x (row_lines m s id row) (sight_lines_at m s id row) (rows_lack m s id row chain_too_long (omega arith)))
+      (Iff.and (λ e. e, λ e. e) (ten_of_sight x)))
 
   -- the same where the row's chain, to pointer 0, is the list l: it is longer than the limit and none of its first `walk` is seen
   pub read_refused_10_when_the_chain_is_longer : (l : List ℕ) → Way (size_n m) (version_at m.cells) (head_at m row) l 0 → ((read_out m s id row).answer ≡ ReadAnswer.Refused chain_too_long row) ↔ (Earlier × (NoOwn × ((z.walk < length l) × Unseen (size_n m) (version_at m.cells) (slot_at m s) (take z.walk l))))
   read_refused_10_when_the_chain_is_longer l w =
       let i = too_long_exactly_when (size_n m) (version_at m.cells) (slot_at m s) z.walk l (head_at m row) w in
-      Iff·trans (read_refused_10_exactly_when row)
+      Iff.trans (read_refused_10_exactly_when row)
       ((λ q. (q.0, (q.1.0, i.0 q.1.1))), (λ q. (q.0, (q.1.0, i.1 q.1.1, refl))))
 
   -- 13: "129th record", with the row: a version is found, its cell is not recorded already, and the records are full
   pub read_refused_13_exactly_when : (x : ℕ) → ((read_out m s id row).answer ≡ ReadAnswer.Refused read_set_full x) ↔ (Earlier × (NoOwn × ((c : ℕ) × NoPlaceFor c) × (x ≡ row)))
   read_refused_13_exactly_when x =
-      Iff·trans (refused_iff in_read m _ _ _ (read_refuses_exactly m s id row) read_set_full x)
-      (Iff·trans (refuses_past read_set_full x (row_lines m s id row) (sight_lines_at m s id row) (rows_lack m s id row read_set_full (omega arith)))
-      (Iff·and (λ e. e, λ e. e) (thirteen_of_sight x)))
+      Iff.trans (refused_iff in_read m _ _ _ (read_refuses_exactly m s id row) read_set_full x)
+      (Iff.trans (refuses_past read_set_full x (row_lines m s id row) (sight_lines_at m s id row) (rows_lack m s id row read_set_full (omega arith)))
+      (Iff.and (λ e. e, λ e. e) (thirteen_of_sight x)))

@@ -1,7 +1,7 @@
 -- A vacuum's refusals 14 and 15, each alone.
 use Rattle.std.specs.Prelude.{ℕ, List, [], ◌∷◌, ◌++◌, ◌≡◌, refl, ◌↔◌, ◌⊎◌}
 use Rattle.std.proofs.Common.{sym, ap, ◌∙◌, inl, inr, arith}
-use Rattle.std.proofs.Math.Logic.{Iff·trans, Iff·and}
+use Rattle.std.proofs.Math.Logic.Iff
 use Rattle.kinds.specs.declared.Answer.{Answer}
 use Rattle.words.specs.Sizes.{Sizes}
 use Rattle.rules.specs.Numbers.{result_full, damaged}
@@ -37,9 +37,9 @@ module _ {z : Sizes} (m : Mem z) (row request room : ℕ) where
   -- 14: "list longer than its buffer": the chain ends, and more of the versions after its head are reclaimable than the buffer holds
   pub vacuum_refused_14_exactly_when : (x : ℕ) → ((vacuum_out m row request room).answer ≡ Answer.Refused result_full x) ↔ (NoneOf head_lines × (Overfull m row (horizon m request) room × (x ≡ 0)))
   vacuum_refused_14_exactly_when x =
-      Iff·trans (refused_iff in_answer m _ _ _ (vacuum_refuses_exactly m row request room) result_full x)
-      (Iff·trans (refuses_past result_full x head_lines (walk_lines m row (horizon m request) room) (λ e. omega arith, (λ e. omega arith, tt)))
-      (Iff·and (λ e. e, λ e. e) (to, λ q. inr (ends_or_not q.0, inl (q.0, refl, q.1)))))
+      Iff.trans (refused_iff in_answer m _ _ _ (vacuum_refuses_exactly m row request room) result_full x)
+      (Iff.trans (refuses_past result_full x head_lines (walk_lines m row (horizon m request) room) (λ e. omega arith, (λ e. omega arith, tt)))
+      (Iff.and (λ e. e, λ e. e) (to, λ q. inr (ends_or_not q.0, inl (q.0, refl, q.1)))))
     where
       to : Refuses (walk_lines m row (horizon m request) room) result_full x → Overfull m row (horizon m request) room × (x ≡ 0)
       to (inl q) = absurd (omega (arith, q.1))
@@ -49,7 +49,7 @@ module _ {z : Sizes} (m : Mem z) (row request room : ℕ) where
   -- 15: "saved sizes out of range or not fitting the lent lengths, clock 0"; or, the row being below R, "a vacuum walk past N versions"
   -- or "a cell or link above N"
   pub vacuum_refused_15_exactly_when : (x : ℕ) → ((vacuum_out m row request room).answer ≡ Answer.Refused damaged x) ↔ ((StoreDamaged m × (x ≡ 0)) ⊎ (NoneOf head_lines × ((WalksPast m row ⊎ Breaks m row) × (x ≡ 0))))
-  vacuum_refused_15_exactly_when x = Iff·trans (refused_iff in_answer m _ _ _ (vacuum_refuses_exactly m row request room) damaged x) (to, from)
+  vacuum_refused_15_exactly_when x = Iff.trans (refused_iff in_answer m _ _ _ (vacuum_refuses_exactly m row request room) damaged x) (to, from)
     where
       to : Refuses (vacuum_lines m row request room) damaged x → (StoreDamaged m × (x ≡ 0)) ⊎ (NoneOf head_lines × ((WalksPast m row ⊎ Breaks m row) × (x ≡ 0)))
       to (inl q) = inl (q.0, q.2)

@@ -2,7 +2,7 @@
 -- an entry is added".
 use Rattle.std.specs.Prelude.{ℕ, ◌≤◌, ◌<◌, ◌≡◌, refl, ◌≢◌, ◌↔◌}
 use Rattle.std.proofs.Math.Option.{Option}
-use Rattle.std.proofs.Math.Logic.{Iff·trans, Iff·and}
+use Rattle.std.proofs.Math.Logic.Iff
 use Rattle.std.proofs.Common.{inl, inr, arith}
 use Rattle.kinds.specs.declared.Answer.{Answer}
 use Rattle.words.specs.Sizes.{Sizes, WRITES}
@@ -35,8 +35,8 @@ module _ {z : Sizes} (m : Mem z) (s id row : ℕ) where
   -- a number of an added entry's lines
   of_write : (v : Option ℕ) (k x : ℕ) → (6 < k) × (k < 15) → ((write_out m s id row v).answer ≡ Answer.Refused k x) ↔ (Adding × Refuses (add_lines m s id row) k x)
   of_write v k x b =
-      Iff·trans (refused_iff in_answer m _ _ _ (write_refuses_exactly m s id row v) k x)
-      (Iff·trans (refuses_past k x (row_lines m s id row) (now_lines m s id row) (rows_lack m s id row k b)) (to, from))
+      Iff.trans (refused_iff in_answer m _ _ _ (write_refuses_exactly m s id row v) k x)
+      (Iff.trans (refuses_past k x (row_lines m s id row) (now_lines m s id row) (rows_lack m s id row k b)) (to, from))
     where
       to : NoneOf (row_lines m s id row) × Refuses (now_lines m s id row) k x → Adding × Refuses (add_lines m s id row) k x
       to (e, inl q) = absurd (omega (arith, q.1, b.1))
@@ -108,16 +108,16 @@ module _ {z : Sizes} (m : Mem z) (s id row : ℕ) where
 
   -- 7: "write, head locked by another id", with the row
   pub write_refused_7_exactly_when : (v : Option ℕ) (x : ℕ) → ((write_out m s id row v).answer ≡ Answer.Refused row_locked x) ↔ (Adding × (HeadSound × (head_at m row ≢ 0) × LockedByOther (head_version m row) id × (x ≡ row)))
-  write_refused_7_exactly_when v x = Iff·trans (of_write v row_locked x (omega arith)) (Iff·and (λ e. e, λ e. e) (seven x))
+  write_refused_7_exactly_when v x = Iff.trans (of_write v row_locked x (omega arith)) (Iff.and (λ e. e, λ e. e) (seven x))
 
   -- 8: "write: head nonzero and not visible", with the row
   pub write_refused_8_exactly_when : (v : Option ℕ) (x : ℕ) → ((write_out m s id row v).answer ≡ Answer.Refused write_conflict x) ↔ (Adding × (HeadSound × (head_at m row ≢ 0) × (LockedByOther (head_version m row) id → ⊥) × (Sees (slot_at m s) (head_version m row) → ⊥) × (x ≡ row)))
-  write_refused_8_exactly_when v x = Iff·trans (of_write v write_conflict x (omega arith)) (Iff·and (λ e. e, λ e. e) (eight x))
+  write_refused_8_exactly_when v x = Iff.trans (of_write v write_conflict x (omega arith)) (Iff.and (λ e. e, λ e. e) (eight x))
 
   -- 12: "33rd entry"
   pub write_refused_12_exactly_when : (v : Option ℕ) (x : ℕ) → ((write_out m s id row v).answer ≡ Answer.Refused write_set_full x) ↔ (Adding × (HeadFine × (z.writes ≤ count_at m s (WRITES z)) × (x ≡ 0)))
-  write_refused_12_exactly_when v x = Iff·trans (of_write v write_set_full x (omega arith)) (Iff·and (λ e. e, λ e. e) (twelve x))
+  write_refused_12_exactly_when v x = Iff.trans (of_write v write_set_full x (omega arith)) (Iff.and (λ e. e, λ e. e) (twelve x))
 
   -- 11: "write, no free cell"
   pub write_refused_11_exactly_when : (v : Option ℕ) (x : ℕ) → ((write_out m s id row v).answer ≡ Answer.Refused no_room x) ↔ (Adding × (HeadFine × (count_at m s (WRITES z) < z.writes) × (free m ≡ 0) × (x ≡ 0)))
-  write_refused_11_exactly_when v x = Iff·trans (of_write v no_room x (omega arith)) (Iff·and (λ e. e, λ e. e) (eleven x))
+  write_refused_11_exactly_when v x = Iff.trans (of_write v no_room x (omega arith)) (Iff.and (λ e. e, λ e. e) (eleven x))

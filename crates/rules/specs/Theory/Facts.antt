@@ -43,7 +43,7 @@ least_among c (x ∷ l) ne = by_bool (leb x (least c l))
     (λ e. let q : min x (least c l) ≡ x = omega (arith, leb-true x (least c l) e) in rw (q, eq-eqb x x refl))
     (λ e.
     let q : min x (least c l) ≡ least c l = omega (arith, leb-false x (least c l) e) in
-    rw q (rw (least_among c l (λ y. ne (q ∙ y))) (or_true (eqb (least c l) x))))
+    subst (λ (y : ℕ). has y (x ∷ l) ≡ true) (sym q) (rw (least_among c l (λ y. ne (q ∙ y))) (or_true (eqb (least c l) x))))
 
 least_has_le : (c x : ℕ) (l : List ℕ) → has x l ≡ true → least c l ≤ x
 unfolding least has
@@ -84,7 +84,7 @@ entry_once : (f : ℕ → Ver) (R t r : ℕ) (ws : List Write) → Entries f R t
 unfolding cnt
 entry_once f R t r [] e = omega arith
 entry_once f R t r (w ∷ l) e = by_eq r w.row
-    (λ q. rw q (omega (arith, cnt_same w.row (own_rows l), no_row f w.row l e.3)))
+    (λ q. subst (λ (y : ℕ). cnt y (own_rows (w ∷ l)) ≤ 1) (sym q) (omega (arith, cnt_same w.row (own_rows l), no_row f w.row l e.3)))
     (λ q. omega (arith, cnt_other r w.row (own_rows l) q, entry_once f R t r l e.4))
 
 pub no_rec : (r : ℕ) (l : List Rec) → All (λ p. p.row ≢ r) l → cnt r (rows_read l) ≡ 0
@@ -96,7 +96,7 @@ pub rec_once : (r : ℕ) (l : List Rec) → Apart l → cnt r (rows_read l) ≤ 
 unfolding cnt
 rec_once r [] a = omega arith
 rec_once r (q ∷ l) a = by_eq r q.row
-    (λ y. rw y (omega (arith, cnt_same q.row (rows_read l), no_rec q.row l a.0)))
+    (λ y. subst (λ (k : ℕ). cnt k (rows_read (q ∷ l)) ≤ 1) (sym y) (omega (arith, cnt_same q.row (rows_read l), no_rec q.row l a.0)))
     (λ y. omega (arith, cnt_other r q.row (rows_read l) y, rec_once r l a.1))
 
 -- the base of a held entry
