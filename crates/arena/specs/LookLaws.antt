@@ -8,7 +8,7 @@ use Rattle.kinds.specs.declared.Version.{Version}
 use Rattle.words.specs.Lists.{first}
 use Rattle.words.specs.Slots.{Slot}
 use Rattle.kinds.specs.Visible.{visible}
-use Rattle.rules.specs.Chain.{found, nothing, tooLong, harmed, chain, look}
+use Rattle.rules.specs.Chain.{found, nothing, too_long, harmed, chain, look}
 
 module _ (n : ℕ) (t : Slot) (f : ℕ → Version) where
   pub look_end : (k c : ℕ) → c ≡ 0 → look n t f k c ≡ nothing
@@ -16,7 +16,7 @@ module _ (n : ℕ) (t : Slot) (f : ℕ → Version) where
   look_end zero c e = rw e
   look_end (suc k) c e = rw e
 
-  pub look_limit : (k c : ℕ) → k ≡ 0 → c ≢ 0 → look n t f k c ≡ tooLong
+  pub look_limit : (k c : ℕ) → k ≡ 0 → c ≢ 0 → look n t f k c ≡ too_long
   unfolding look chain first
   look_limit k c z e = rw (z, ne_eqb c 0 e)
 

@@ -6,7 +6,7 @@ use Rattle.kinds.specs.declared.Cell.{Cell}
 use Rattle.kinds.specs.declared.Version.{Version}
 use Rattle.kinds.specs.Versions.{at}
 use Rattle.words.specs.Slots.{Write}
-use Rattle.rules.specs.Chain.{Look, found, nothing, tooLong, harmed}
+use Rattle.rules.specs.Chain.{Look, found, nothing, too_long, harmed}
 use Rattle.rules.specs.Outcome.{is_cell}
 use Rattle.arena.specs.declared.Seen.{Seen}
 use Rattle.arena.specs.Sights.{sighted}
@@ -21,7 +21,7 @@ own_of (some w) = Own.At (at w.new)
 abbrev pub along : Look → Found
 along (found c) = Found.Version (at c)
 along nothing = Found.Nothing
-along tooLong = Found.TooLong
+along too_long = Found.TooLong
 along harmed = Found.Harmed
 
 -- the own write first: its cell is 0 or above N where it is harmed
@@ -49,5 +49,5 @@ unfolding found_of
 found_along n (some w) k e = absurd (let z : ◌≡◌ {A = ℕ} 0 1 = cc in omega arith)
 found_along n none (found c) e = refl
 found_along n none nothing e = refl
-found_along n none tooLong e = refl
+found_along n none too_long e = refl
 found_along n none harmed e = refl

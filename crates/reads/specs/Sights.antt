@@ -9,7 +9,7 @@ use Rattle.kinds.specs.declared.Version.{Version}
 use Rattle.words.specs.Sizes.{base, READS}
 use Rattle.rules.specs.Numbers.{chain_too_long, read_set_full, damaged}
 use Rattle.words.specs.Slots.{Write, Rec, rec, Slot, slot_of}
-use Rattle.rules.specs.Chain.{Look, found, nothing, tooLong, harmed, look}
+use Rattle.rules.specs.Chain.{Look, found, nothing, too_long, harmed, look}
 use Rattle.rules.specs.Outcome.{is_cell}
 use Rattle.rules.specs.Read as R
 use Rattle.rules.specs.Read.{blocked, sees, own, recorded, sight_of, own_sight, read_row}
@@ -39,7 +39,7 @@ module _ (n : ℕ) (f : ℕ → Version) (head : ℕ) (t : Slot) (recs : List Re
   unfolding sight_of found_of record_of
   along_look (found c) = refl
   along_look nothing = refl
-  along_look tooLong = refl
+  along_look too_long = refl
   along_look harmed = refl
 
   by_own : (o : Option Write) → own_sight base n f head t recs row o ≡ sight_found f recs row (found_of n o (look n t f base.walk head))

@@ -12,7 +12,7 @@ use Rattle.words.specs.Lists.{first}
 use Rattle.rules.specs.Theory.Cases.{by_bool, by_eq, by_le}
 use Rattle.words.specs.Slots.{Slot}
 use Rattle.kinds.specs.Visible.{visible}
-use Rattle.rules.specs.Chain.{After, ends, goesOn, broken, Chain, chained, chain, Look, found, nothing, tooLong, harmed, look}
+use Rattle.rules.specs.Chain.{After, ends, goesOn, broken, Chain, chained, chain, Look, found, nothing, too_long, harmed, look}
 use Rattle.rules.specs.Exactly.{All, holds_true, fails_false}
 use Rattle.rules.specs.Terms.{CellOf, Sees, is_seen}
 
@@ -150,20 +150,20 @@ module _ (n : ℕ) (f : ℕ → Version) where
     abbrev pub LookIs : ℕ → ℕ → Look → Type 0
     LookIs k h (found c) = FirstSeen k h c
     LookIs k h nothing = NoneSeen k h
-    LookIs k h tooLong = TooLong k h
+    LookIs k h too_long = TooLong k h
     LookIs k h harmed = Harmed k h
 
     more_look : (k h : ℕ) (a : Look) → CellOf n h → (Sees t (f h) → ⊥) → LookIs k (f h).next.0 a → LookIs (suc k) h a
     more_look k h (found c) o u i = record { passed = h ∷ i.passed; way = way_more h c i.passed o i.way; within = omega (arith, i.within); unseen = (u, i.unseen); cell = i.cell; seen = i.seen }
     more_look k h nothing o u i = record { passed = h ∷ i.passed; way = way_more h 0 i.passed o i.way; within = omega (arith, i.within); unseen = (u, i.unseen) }
-    more_look k h tooLong o u i = record { passed = h ∷ i.passed; further = i.further; way = way_more h i.further i.passed o i.way; many = omega (arith, i.many); goes = i.goes; unseen = (u, i.unseen) }
+    more_look k h too_long o u i = record { passed = h ∷ i.passed; further = i.further; way = way_more h i.further i.passed o i.way; many = omega (arith, i.many); goes = i.goes; unseen = (u, i.unseen) }
     more_look k h harmed o u i = record { passed = h ∷ i.passed; further = i.further; way = way_more h i.further i.passed o i.way; within = omega (arith, i.within); above = i.above; unseen = (u, i.unseen) }
 
     look_end : (k p : ℕ) → p ≡ 0 → look n t f k p ≡ nothing
     unfolding look first
     look_end k p e = rw (at_end_lem k p e)
 
-    look_limit : (p : ℕ) → p ≢ 0 → look n t f 0 p ≡ tooLong
+    look_limit : (p : ℕ) → p ≢ 0 → look n t f 0 p ≡ too_long
     unfolding look first
     look_limit p e = rw (at_limit p e)
 
@@ -203,7 +203,7 @@ module _ (n : ℕ) (f : ℕ → Version) where
     pub is_look : (k h : ℕ) (a : Look) → LookIs k h a → look n t f k h ≡ a
     is_look k h (found c) i = let r = above k (length i.passed) i.within in through_look i.passed k (suc r.0) h c i.way.along i.way.cells i.unseen r.1 ∙ look_seen r.0 c i.cell i.seen
     is_look k h nothing i = let r = from k (length i.passed) i.within in through_look i.passed k r.0 h 0 i.way.along i.way.cells i.unseen r.1 ∙ look_end r.0 0 refl
-    is_look k h tooLong i = through_look i.passed k 0 h i.further i.way.along i.way.cells i.unseen (omega (arith, i.many)) ∙ look_limit i.further i.goes
+    is_look k h too_long i = through_look i.passed k 0 h i.further i.way.along i.way.cells i.unseen (omega (arith, i.many)) ∙ look_limit i.further i.goes
     is_look k h harmed i = let r = above k (length i.passed) i.within in through_look i.passed k (suc r.0) h i.further i.way.along i.way.cells i.unseen r.1 ∙ look_break r.0 i.further i.above
 
     -- two looks that cannot both be

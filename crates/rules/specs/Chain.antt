@@ -30,12 +30,12 @@ chain n f (suc most) c =
 -- what a reader finds along a chain
 pub data Look : Type 0 where
   found : ℕ → Look
-  nothing tooLong harmed : Look
+  nothing too_long harmed : Look
 
 abbrev pub look_of : Option ℕ → After → Look
 look_of (some c) a = found c
 look_of none ends = nothing
-look_of none goesOn = tooLong
+look_of none goesOn = too_long
 look_of none broken = harmed
 
 -- "the first visible version from the head (000, `first_visible`)", among the first `limit`

@@ -19,7 +19,7 @@ use Rattle.rules.specs.Write.{write_out}
 use Rattle.rules.specs.Commit.{commit_out}
 use Rattle.rules.specs.Abort.{abort_out}
 use Rattle.rules.specs.Vacuum.{vacuum_out}
-use Rattle.rules.specs.Chain.{tooLong, harmed}
+use Rattle.rules.specs.Chain.{too_long, harmed}
 use Rattle.rules.specs.Exactly.{All, all_map, Refuses, NoneOf, each_of, FirstOf, under, in_answer, in_read, refused_iff, refuses_append, refuses_past, refuses_before, refuses_each, refuses_under, none_append, none_each}
 use Rattle.rules.specs.Terms.{CellOf, NoEntry, entry_or_none, StoreDamaged}
 use Rattle.rules.specs.Along.{Harmed, look_apart}
@@ -110,7 +110,7 @@ module _ {z : Sizes} (m : Mem z) where
               λ w. entry_or_none _ row w.0 w.1 h.0,
               inr (
                 λ y.
-                    let g : harmed ≡ tooLong = look_apart (size_n m) (version_at m.cells) (slot_at m s) z.walk (head_at m row) harmed tooLong h.1 y.1 in
+                    let g : harmed ≡ too_long = look_apart (size_n m) (version_at m.cells) (slot_at m s) z.walk (head_at m row) harmed too_long h.1 y.1 in
                     let o : ◌≡◌ {A = ℕ} 0 1 = cc in
                     omega arith,
                 inl (h, refl, e),

@@ -15,7 +15,7 @@ use Rattle.rules.specs.Theory.Cases.{by_bool}
 use Rattle.kinds.specs.Versions.{version_at}
 use Rattle.words.specs.Slots.{Write, Rec, Slot, slot_of}
 use Rattle.rules.specs.Memory.{Mem, mem, size_n, head_at, slot_at}
-use Rattle.rules.specs.Chain.{Look, found, nothing, tooLong, harmed, look}
+use Rattle.rules.specs.Chain.{Look, found, nothing, too_long, harmed, look}
 use Rattle.rules.specs.Outcome.{Outcome, Test, guard, refuse_read, fits, store_tests, slot_tests, row_test}
 use Rattle.rules.specs.Read.{own, answer_at, Sight, blocked, sees, sight_of, own_sight, read_row, read_end, read_out}
 use Rattle.rules.specs.Along.{LookIs, look_is, is_look}
@@ -26,14 +26,14 @@ abbrev pub walking : Sizes → ℕ → Sizes
 walking z k = record { slots = z.slots; walk = k; writes = z.writes; reads = z.reads; rows = z.rows; cells = z.cells; width = z.width }
 
 module _ (n : ℕ) (t : Slot) (f : ℕ → Version) (h k l : ℕ) (longer : k ≤ l) where
-  longer_is : (a : Look) → a ≢ tooLong → LookIs n f t k h a → LookIs n f t l h a
+  longer_is : (a : Look) → a ≢ too_long → LookIs n f t k h a → LookIs n f t l h a
   longer_is (found c) e i = record { passed = i.passed; way = i.way; within = omega (arith, i.within); unseen = i.unseen; cell = i.cell; seen = i.seen }
   longer_is nothing e i = record { passed = i.passed; way = i.way; within = omega (arith, i.within); unseen = i.unseen }
-  longer_is tooLong e i = absurd (e refl)
+  longer_is too_long e i = absurd (e refl)
   longer_is harmed e i = record { passed = i.passed; further = i.further; way = i.way; within = omega (arith, i.within); above = i.above; unseen = i.unseen }
 
   -- what the shorter walk found, the end of the chain and damage too, the longer finds
-  pub longer_look : look n t f k h ≢ tooLong → look n t f l h ≡ look n t f k h
+  pub longer_look : look n t f k h ≢ too_long → look n t f l h ≡ look n t f k h
   longer_look e = is_look n f t l h (look n t f k h) (longer_is (look n t f k h) e (look_is n f t k h))
 
 module _ (z : Sizes) (n : ℕ) (f : ℕ → Version) (head : ℕ) (t : Slot) (recs : List Rec) (row k l : ℕ) (longer : k ≤ l) where
@@ -43,10 +43,10 @@ module _ (z : Sizes) (n : ℕ) (f : ℕ → Version) (head : ℕ) (t : Slot) (re
 
   alike : (a : Look) → look n t f k head ≡ a → (sight_of (walking z l) n f head t recs row (look n t f l head) ≡ sight_of (walking z k) n f head t recs row a) ⊎ (sight_of (walking z k) n f head t recs row a ≡ blocked chain_too_long row)
   unfolding sight_of
-  alike (found c) e = inl (rw (longer_look n t f head k l longer (λ h. let q : found c ≡ tooLong = sym e ∙ h in let w : ◌≡◌ {A = ℕ} 0 1 = cc in omega arith), e))
-  alike nothing e = inl (rw (longer_look n t f head k l longer (λ h. let q : nothing ≡ tooLong = sym e ∙ h in let w : ◌≡◌ {A = ℕ} 0 1 = cc in omega arith), e))
-  alike harmed e = inl (rw (longer_look n t f head k l longer (λ h. let q : harmed ≡ tooLong = sym e ∙ h in let w : ◌≡◌ {A = ℕ} 0 1 = cc in omega arith), e))
-  alike tooLong e = inr refl
+  alike (found c) e = inl (rw (longer_look n t f head k l longer (λ h. let q : found c ≡ too_long = sym e ∙ h in let w : ◌≡◌ {A = ℕ} 0 1 = cc in omega arith), e))
+  alike nothing e = inl (rw (longer_look n t f head k l longer (λ h. let q : nothing ≡ too_long = sym e ∙ h in let w : ◌≡◌ {A = ℕ} 0 1 = cc in omega arith), e))
+  alike harmed e = inl (rw (longer_look n t f head k l longer (λ h. let q : harmed ≡ too_long = sym e ∙ h in let w : ◌≡◌ {A = ℕ} 0 1 = cc in omega arith), e))
+  alike too_long e = inr refl
 
   own_alike : (o : Option Write) → (own_sight (walking z l) n f head t recs row o ≡ own_sight (walking z k) n f head t recs row o) ⊎ (own_sight (walking z k) n f head t recs row o ≡ blocked chain_too_long row)
   unfolding own_sight

@@ -10,7 +10,7 @@ use Rattle.words.specs.Lists.{from}
 use Rattle.kinds.specs.Versions.{version_at}
 use Rattle.words.specs.Slots.{Write, Rec}
 use Rattle.rules.specs.Memory.{Mem, size_r, size_n, head_at, slot_at}
-use Rattle.rules.specs.Chain.{Look, found, nothing, tooLong, harmed, look}
+use Rattle.rules.specs.Chain.{Look, found, nothing, too_long, harmed, look}
 use Rattle.rules.specs.Outcome.{Outcome}
 use Rattle.rules.specs.Read.{own}
 use Rattle.rules.specs.Lookup.{rows_to_read, lookup_out, lookup_all_out}
@@ -34,7 +34,7 @@ module _ {z : Sizes} (m : Mem z) (s : ℕ) where
   found_of (some w) a = w.new
   found_of none (found c) = c
   found_of none nothing = 0
-  found_of none tooLong = 0
+  found_of none too_long = 0
   found_of none harmed = 0
 
   finds_is : (r c : ℕ) → Finds r c → found_of (own (slot_at m s).writes r) (look (size_n m) (slot_at m s) (version_at m.cells) z.walk (head_at m r)) ≡ c

@@ -10,7 +10,7 @@ use Rattle.words.specs.Lists.{last}
 use Rattle.kinds.specs.Versions.{version_at, value_of}
 use Rattle.words.specs.Slots.{Write, Rec, rec, Slot, add_recs}
 use Rattle.rules.specs.Memory.{Mem, size_n, head_at, words_at, slot_at, with_slot}
-use Rattle.rules.specs.Chain.{Look, found, nothing, tooLong, harmed, look}
+use Rattle.rules.specs.Chain.{Look, found, nothing, too_long, harmed, look}
 use Rattle.rules.specs.Outcome.{Outcome, out, guard, refuse_read, slot_tests, row_test, is_cell}
 
 -- the own write of the row: the last of its entries (000, `last_write`)
@@ -36,7 +36,7 @@ module _ (z : Sizes) (n : ℕ) (f : ℕ → Version) (head : ℕ) (t : Slot) (re
   -- "A version found is recorded unless its cell is recorded already. A read that finds none records nothing."
   unfoldable pub sight_of : Look → Sight
   sight_of nothing = sees 0 []
-  sight_of tooLong = blocked chain_too_long row
+  sight_of too_long = blocked chain_too_long row
   sight_of harmed = blocked damaged 0
   sight_of (found c) = cond (recorded c recs) (sees c []) (cond (leb z.reads (length recs)) (blocked read_set_full row) (sees c (rec row c (f c).xmin.0 ∷ [])))
 

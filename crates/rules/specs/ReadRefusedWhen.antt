@@ -10,7 +10,7 @@ use Rattle.rules.specs.Numbers.{chain_too_long, read_set_full}
 use Rattle.kinds.specs.Versions.{version_at}
 use Rattle.words.specs.Slots.{Slot}
 use Rattle.rules.specs.Memory.{Mem, size_n, head_at, slot_at}
-use Rattle.rules.specs.Chain.{Look, found, tooLong, harmed}
+use Rattle.rules.specs.Chain.{Look, found, too_long, harmed}
 use Rattle.rules.specs.Read.{read_out}
 use Rattle.rules.specs.Exactly.{All, Refuses, NoneOf, in_read, refused_iff, refuses_past}
 use Rattle.rules.specs.Terms.{CellOf, Sees, NoEntry, entry_or_none, Recorded}
@@ -96,7 +96,7 @@ module _ {z : Sizes} (m : Mem z) (s id row : ℕ) where
           inr (
             λ w. entry_or_none _ row w.0 w.1 q.0,
             inr (
-              λ y. found_or_not q.1.0 tooLong (λ e. omega arith) (look_apart (size_n m) (version_at m.cells) (slot_at m s) z.walk (head_at m row) (found q.1.0) tooLong q.1.1.0 y.1),
+              λ y. found_or_not q.1.0 too_long (λ e. omega arith) (look_apart (size_n m) (version_at m.cells) (slot_at m s) z.walk (head_at m row) (found q.1.0) too_long q.1.1.0 y.1),
               inr (
                 λ y. found_or_not q.1.0 harmed (λ e. omega arith) (look_apart (size_n m) (version_at m.cells) (slot_at m s) z.walk (head_at m row) (found q.1.0) harmed q.1.1.0 y.1),
                 inl ((q.0, (q.1.0, q.1.1.0, q.1.1.1, q.1.1.2)), refl, q.2),

@@ -14,7 +14,7 @@ use Rattle.rules.specs.Theory.Cases.{by_bool}
 use Rattle.kinds.specs.Versions.{version_at}
 use Rattle.words.specs.Slots.{Write, Rec, rec, Slot}
 use Rattle.rules.specs.Memory.{Mem, size_n, head_at, slot_at}
-use Rattle.rules.specs.Chain.{Look, found, nothing, tooLong, harmed, look}
+use Rattle.rules.specs.Chain.{Look, found, nothing, too_long, harmed, look}
 use Rattle.rules.specs.Outcome.{slot_tests, row_test, is_cell}
 use Rattle.rules.specs.Read.{own, answer_at, Sight, blocked, sees, recorded, sight_of, own_sight, read_row, read_at, read_end, read_out}
 use Rattle.rules.specs.Exactly.{Line, line, Refuses, NoneOf, Exactly, in_read, is_most, holds_true, fails_false, exactly_guarded, exactly_blocked, exactly_accepted}
@@ -26,7 +26,7 @@ use Rattle.rules.specs.SharedLines.{row_lines, row_says}
 abbrev pub look_number : Look → ℕ
 look_number (found c) = 0
 look_number nothing = 1
-look_number tooLong = 2
+look_number too_long = 2
 look_number harmed = 3
 
 apart : (a b : Look) → look_number a ≢ look_number b → a ≡ b → ⊥
@@ -100,7 +100,7 @@ module _ (z : Sizes) (n : ℕ) (f : ℕ → Version) (head : ℕ) (t : Slot) (re
         (
           λ q. some_or_none q.0 e q.1,
           (
-            λ q. apart nothing tooLong (λ e. omega arith) (look_differs nothing tooLong g q.1),
+            λ q. apart nothing too_long (λ e. omega arith) (look_differs nothing too_long g q.1),
             (
               λ q. apart nothing harmed (λ e. omega arith) (look_differs nothing harmed g q.1),
               (λ q. apart nothing (found q.1.0) (λ e. omega arith) (look_differs nothing (found q.1.0) g q.1.1), tt),
@@ -109,18 +109,18 @@ module _ (z : Sizes) (n : ℕ) (f : ℕ → Version) (head : ℕ) (t : Slot) (re
         ),
         no_version i v,
       )
-  look_sight_is e i tooLong g =
+  look_sight_is e i too_long g =
       let v : TooLong n f t z.walk head = subst (LookIs n f t z.walk head) g (look_is n f t z.walk head) in
       inr (λ q. some_or_none q.0 e q.1, inl ((i, v), refl, refl))
   look_sight_is e i harmed g =
       let v : Harmed n f t z.walk head = subst (LookIs n f t z.walk head) g (look_is n f t z.walk head) in
       inr (
         λ q. some_or_none q.0 e q.1,
-        inr (λ q. apart harmed tooLong (λ e. omega arith) (look_differs harmed tooLong g q.1), inl ((i, v), refl, refl)),
+        inr (λ q. apart harmed too_long (λ e. omega arith) (look_differs harmed too_long g q.1), inl ((i, v), refl, refl)),
       )
   look_sight_is e i (found c) g =
       let v : FirstSeen n f t z.walk head c = subst (LookIs n f t z.walk head) g (look_is n f t z.walk head) in
-      let far : NoEntry t.writes row × TooLong n f t z.walk head → ⊥ = λ q. apart (found c) tooLong (λ e. omega arith) (look_differs (found c) tooLong g q.1) in
+      let far : NoEntry t.writes row × TooLong n f t z.walk head → ⊥ = λ q. apart (found c) too_long (λ e. omega arith) (look_differs (found c) too_long g q.1) in
       let ill : NoEntry t.writes row × Harmed n f t z.walk head → ⊥ = λ q. apart (found c) harmed (λ e. omega arith) (look_differs (found c) harmed g q.1) in
       by_bool (recorded c recs)
       (λ b. rw b (

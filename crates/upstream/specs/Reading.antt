@@ -16,7 +16,7 @@ use Rattle.words.specs.Lists.{nonzero, first, last, or_else}
 use Rattle.kinds.specs.Versions.{version_at}
 use Rattle.words.specs.Slots.{Slot, Write, Rec, rec, add_recs, slot_of}
 use Rattle.rules.specs.Memory.{Mem, size_n, head_at, words_at, slot_at, with_slot}
-use Rattle.rules.specs.Chain.{Chain, chain, After, ends, goesOn, broken, Look, found, nothing, tooLong, harmed, look_of, look}
+use Rattle.rules.specs.Chain.{Chain, chain, After, ends, goesOn, broken, Look, found, nothing, too_long, harmed, look_of, look}
 use Rattle.rules.specs.Outcome.{Outcome, refuse_read, slot_tests, row_test, is_cell}
 use Rattle.rules.specs.Read.{own, answer_at, recorded, blocked, sees, sight_of, own_sight, read_row, read_end, read_out}
 use Rattle.rules.specs.History.{Log, who_in, rows_in, cells_in}
@@ -214,7 +214,7 @@ module _ {z : Sizes} (rm : Roomy z) (m : Mem z) (l : Log) (rc : Reachable m l) (
   nothing_is none goesOn e = let y : ◌≡◌ {A = ℕ} 0 1 = cc in absurd (omega arith)
   nothing_is none broken e = let y : ◌≡◌ {A = ℕ} 0 1 = cc in absurd (omega arith)
 
-  long_is : (o : Option ℕ) (a : After) → look_of o a ≡ tooLong → (o ≡ none) × (a ≡ goesOn)
+  long_is : (o : Option ℕ) (a : After) → look_of o a ≡ too_long → (o ≡ none) × (a ≡ goesOn)
   long_is (some d) a e = let y : ◌≡◌ {A = ℕ} 0 1 = cc in absurd (omega arith)
   long_is none ends e = let y : ◌≡◌ {A = ℕ} 0 1 = cc in absurd (omega arith)
   long_is none goesOn e = (refl, refl)
@@ -256,13 +256,13 @@ module _ {z : Sizes} (rm : Roomy z) (m : Mem z) (l : Log) (rc : Reachable m l) (
 
   -- Gap 1: when it is Ok. It fails exactly where the chain is longer than the limit and none of the versions walked is seen; no driver
   -- fails at will.
-  pub find_visible_row_ptr_fails_exactly_when_too_long : (finds ≡ tooLong) ↔ ((z.walk < length cells) × (first (sees_at m s) (walked_at m row) ≡ none))
+  pub find_visible_row_ptr_fails_exactly_when_too_long : (finds ≡ too_long) ↔ ((z.walk < length cells) × (first (sees_at m s) (walked_at m row) ≡ none))
   find_visible_row_ptr_fails_exactly_when_too_long = (
     λ e. let k = long_is _ _ (sym walk_is ∙ e) in (rest_long z.walk cells k.1, k.0),
     λ p. walk_is ∙ rw p.1 (too_far (rest_of z.walk cells) refl p.0),
   )
     where
-      too_far : (a : After) → rest_of z.walk cells ≡ a → z.walk < length cells → look_of none a ≡ tooLong
+      too_far : (a : After) → rest_of z.walk cells ≡ a → z.walk < length cells → look_of none a ≡ too_long
       too_far ends e lt = absurd (omega (arith, rest_short z.walk cells e))
       too_far goesOn e lt = refl
       too_far broken e lt = absurd (rest_whole z.walk cells e)
@@ -316,7 +316,7 @@ module _ {z : Sizes} (rm : Roomy z) (m : Mem z) (l : Log) (rc : Reachable m l) (
       let w : none ≡ last_write t.writes row = ap new_of (sym e) ∙ latest_pending_is_last_write t.writes row in
       let v = find_visible_row_ptr_ok_is_first_visible.1 q in
       ok_of 0 [] (omega (arith, few)) (rw (← w, v) (none_is f)) (rw (← w, v) (append-nil t.recs))
-  look_ok e tooLong q a = absurd (blocked_not m s chain_too_long row a)
+  look_ok e too_long q a = absurd (blocked_not m s chain_too_long row a)
   look_ok e harmed q a = absurd (find_visible_row_ptr_is_never_harmed q)
   look_ok e (found c) q a =
       let w : none ≡ last_write t.writes row = ap new_of (sym e) ∙ latest_pending_is_last_write t.writes row in

@@ -13,7 +13,7 @@ use Rattle.words.specs.Lists.{first, or_else, last, nonzero}
 use Rattle.kinds.specs.Versions.{at}
 use Rattle.words.specs.Slots.{Slot, rec, Write, Rec}
 use Rattle.kinds.specs.Visible.{visible}
-use Rattle.rules.specs.Chain.{Look, found, nothing, tooLong, look, look_of}
+use Rattle.rules.specs.Chain.{Look, found, nothing, too_long, look, look_of}
 use Rattle.rules.specs.Read.{sees, own, answer_at, recorded, Sight, blocked, sight_of, own_sight, read_row}
 use Rattle.rules.specs.Abort.{news}
 use Rattle.rules.specs.History.{answer_of, Val}
@@ -49,7 +49,7 @@ pub record Seen (t : Slot) (f : ℕ → Ver) (l : List ℕ) (c : ℕ) : Type 0 w
 pub data Looks (k : ℕ) (t : Slot) (f : ℕ → Ver) (l : List ℕ) : Look → Type 0 where
   at_cell : (c : ℕ) → pick_cell t f (take k l) ≡ some c → Seen t f l c → Looks k t f l (found c)
   at_end_lem : length l ≤ k → pick t f l ≡ none → Looks k t f l nothing
-  too_far : Beyond k t f l → Looks k t f l tooLong
+  too_far : Beyond k t f l → Looks k t f l too_long
 
 looks_on : (k : ℕ) (t : Slot) (f : ℕ → Ver) (c : ℕ) (l : List ℕ) (x : Look) → vis t (f c) ≡ false → Looks k t f l x → Looks (suc k) t f (c ∷ l) x
 unfolding first pick cnt
