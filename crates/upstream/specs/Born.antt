@@ -49,7 +49,7 @@ spelled_next : (nx : ℕ → ℕ) (h : ℕ) (l : List ℕ) (d : ℕ) → Spelled
 unfolding cnt
 spelled_next nx h [] d s nz k = absurd (nz refl)
 spelled_next nx h (c ∷ l) d s nz k = by_eq d c
-    (λ e. let f : nx c ≢ 0 = λ z. k (ap nx e ∙ z) in λ z. spelled_first nx (nx c) l s.2 f (cnt_tail (nx c) c l (rw e at z)))
+    (λ e. let f : nx c ≢ 0 = λ z. k (ap nx e ∙ z) in λ z. spelled_first nx (nx c) l s.2 f (cnt_tail (nx c) c l (subst (λ (y : ℕ). cnt (nx y) (c ∷ l) ≡ 0) e z)))
     (λ ne. λ z. spelled_next nx (nx c) l d s.2 (λ y. nz (cnt_other d c l ne ∙ y)) k (cnt_tail (nx d) c l z))
 
 module _ (R : ℕ) (st : View) where
