@@ -1,4 +1,3 @@
-use Rattle.gate.proofs.Stops.{stops}
 use native.Mathlib.Omega.{arith}
 use mathlib.Core.Path.{sym, ◌∙◌}
 use borrow.Author.Tests.{le-leb, lt-leb}
@@ -8,7 +7,7 @@ use borrow.Author.Rules.{rules}
 use Rattle.gate.proofs.check_slot.Goals as goal
 
 pub returns-in_default : goal.returns-in_default
-returns-in_default c = sym (slot_verdict _ _ _ ∙ rw (← c.check_store-store.ensures) (stops _ _ c.in_default.keys2))
+returns-in_default c = sym (slot_verdict _ _ _ ∙ rw (sym c.check_store-store.ensures ∙ c.in_default.is) (sym c.in_default.is))
 
 pub returns-then-slot : goal.returns-then-slot
 returns-then-slot c = sym (slot_verdict _ _ _ ∙ rw (sym c.check_store-store.ensures ∙ c.in-Fine.is) (verdict_fails _ _ (le-leb _ _ c.if-slot.true)))
