@@ -1,0 +1,15 @@
+use borrow.Author.Rules.{rules}
+use native.Mathlib.Omega.{arith}
+use mathlib.Core.Path.{◌≡◌, refl, sym, ap, ◌∙◌}
+use lib.Seq.{sets}
+use lib.ListN.{length, length-set}
+use Prim.Native.Nat.{ℕ, ◌+◌, ◌-◌, ◌≤◌}
+use Rattle.digits.specs.Numbers.{digits}
+use Rattle.digits.specs.Laws.{last_digits, put_step, put_done, put_start}
+use Rattle.digits.proofs.put.Given as goal
+
+abbrev pub invariant-loop-i : goal.invariant-loop-i
+invariant-loop-i l = (l.i ≤ l.k) × (length l.buf ≡ length l.initial.buf) × (sets l.buf l.at (last_digits l.i l.rest) ≡ sets l.initial.buf l.at (digits l.n))
+
+abbrev pub decreases-loop-i : goal.decreases-loop-i
+decreases-loop-i l = l.i

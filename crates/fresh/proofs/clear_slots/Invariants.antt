@@ -1,0 +1,15 @@
+use Rattle.fresh.specs.StoreLaws.{cleared_from, cleared_all, cleared_turn, cleared_end}
+use Rattle.words.specs.Sizes.{base}
+use lib.ListN.{length, length-set}
+use borrow.Author.Rules.{rules}
+use native.Mathlib.Omega.{arith}
+use mathlib.Core.Path.{◌≡◌, refl, sym, ◌∙◌}
+use Prim.Native.Nat.{◌-◌, ◌≤◌, min}
+use Rattle.fresh.proofs.clear_slots.Given as goal
+
+abbrev pub invariant-loop-i : goal.invariant-loop-i
+invariant-loop-i l = (l.k ≡ min base.slots (length l.initial.slots)) × (l.i ≤ l.k) × (length l.slots ≡ length l.initial.slots)
+    × (cleared_from base l.slots l.i ≡ cleared_from base l.initial.slots 0)
+
+abbrev pub decreases-loop-i : goal.decreases-loop-i
+decreases-loop-i l = l.k - l.i
