@@ -10,7 +10,7 @@ ghost use Rattle.rules.specs.Memory.{mem};
 ghost use Rattle.rules.specs.Outcome.{out};
 ghost use Rattle.rules.specs.Read.{answer_at};
 ghost use Rattle.rules.specs.Write.{write_now};
-ghost use Rattle.rules.specs.Lent.{mem_in, mem_out};
+ghost use Rattle.rules.specs.Lent.{lent};
 ghost use Rattle.gate.specs.FineLaws.{StoreFine, SlotFine};
 ghost use Rattle.access.specs.ReadRest.{read_rest};
 ghost use Rattle.access.specs.WriteRest.{refused_by, again_out, write_rest};
@@ -43,7 +43,7 @@ pub fn read(
     row: u64,
 ) -> ReadAnswer
     requires { SlotFine (mem {z = base} meta.now rows.now cells.now slots.old) slot id.0 }
-    ensures { out result [] (mem_out meta rows cells slots) ≡ read_rest (mem_in meta rows cells slots) slot row }
+    ensures { out result [] (lent meta.now rows.now cells.now slots.new) ≡ read_rest (lent meta.now rows.now cells.now slots.old) slot row }
 {
     if meta[ROWS] <= row {
         return ReadAnswer::Refused {
@@ -72,7 +72,7 @@ fn write_again(
     value: Value,
 ) -> Answer
     requires { StoreFine (mem {z = base} meta.now rows.now cells.old slots.now) }
-    ensures { out result [] (mem_out meta rows cells slots) ≡ again_out (mem_in meta rows cells slots) c.0 (given value) }
+    ensures { out result [] (lent meta.now rows.now cells.new slots.now) ≡ again_out (lent meta.now rows.now cells.old slots.now) c.0 (given value) }
 {
     if c.0 == 0 {
         return Answer::Refused {
@@ -103,7 +103,7 @@ fn write_first(
 ) -> Answer
     requires slot_fine { SlotFine (mem {z = base} meta.old rows.now cells.old slots.old) slot id.0 }
     requires row_bound { row < get_or meta.old words.ROWS 0 }
-    ensures { out result [] (mem_out meta rows cells slots) ≡ write_now (mem_in meta rows cells slots) slot id.0 row (given value) none }
+    ensures { out result [] (lent meta.new rows.now cells.new slots.new) ≡ write_now (lent meta.old rows.now cells.old slots.old) slot id.0 row (given value) none }
 {
     let s = slot as usize;
     let head = Cell(rows[row as usize]);
@@ -132,7 +132,7 @@ pub fn write(
     value: Value,
 ) -> Answer
     requires { SlotFine (mem {z = base} meta.old rows.now cells.old slots.old) slot id.0 }
-    ensures { out result [] (mem_out meta rows cells slots) ≡ write_rest (mem_in meta rows cells slots) slot id.0 row (given value) }
+    ensures { out result [] (lent meta.new rows.now cells.new slots.new) ≡ write_rest (lent meta.old rows.now cells.old slots.old) slot id.0 row (given value) }
 {
     if meta[ROWS] <= row {
         return Answer::Refused {

@@ -6,7 +6,7 @@ ghost use Rattle.words.specs.Sizes.{base};
 ghost use Rattle.words.specs.Slots.{emptied};
 ghost use Rattle.rules.specs.Memory.{mem};
 ghost use Rattle.rules.specs.Outcome.{out};
-ghost use Rattle.rules.specs.Lent.{mem_in, mem_out};
+ghost use Rattle.rules.specs.Lent.{lent};
 ghost use Rattle.gate.specs.FineLaws.{SlotFine};
 ghost use Rattle.ends.specs.CommitRest.{commit_rest};
 ghost use Rattle.ends.specs.AbortRest.{abort_rest};
@@ -32,7 +32,7 @@ pub fn commit(
     id: TxId,
 ) -> Answer
     requires { SlotFine (mem {z = base} meta.now rows.old cells.old slots.old) slot id.0 }
-    ensures { out result [] (mem_out meta rows cells slots) ≡ commit_rest (mem_in meta rows cells slots) slot id.0 }
+    ensures { out result [] (lent meta.now rows.new cells.new slots.new) ≡ commit_rest (lent meta.now rows.old cells.old slots.old) slot id.0 }
 {
     let s = slot as usize;
     match validate::check_commit(meta, rows, cells, &slots[s]) {
@@ -55,7 +55,7 @@ pub fn abort(
     id: TxId,
 ) -> Answer
     requires { SlotFine (mem {z = base} meta.old rows.now cells.old slots.old) slot id.0 }
-    ensures { out result [] (mem_out meta rows cells slots) ≡ abort_rest (mem_in meta rows cells slots) slot id.0 }
+    ensures { out result [] (lent meta.new rows.now cells.new slots.new) ≡ abort_rest (lent meta.old rows.now cells.old slots.old) slot id.0 }
 {
     let s = slot as usize;
     match undo::check_abort(meta, &slots[s]) {

@@ -6,7 +6,7 @@ ghost use Rattle.words.specs.Sizes.{base};
 ghost use Rattle.rules.specs.Outcome as spec;
 ghost use Rattle.rules.specs.Outcome.{store_tests, slot_tests};
 ghost use Rattle.rules.specs.Verdicts.{verdict};
-ghost use Rattle.rules.specs.Lent.{mem_in};
+ghost use Rattle.rules.specs.Lent.{lent};
 ghost use Rattle.gate.specs.FineLaws.{broken, anothers, overfull, owner_tests};
 
 use kinds::Verdict;
@@ -24,7 +24,7 @@ pub fn fits(
     r: u64,
     n: u64,
 ) -> bool
-    ensures { result ≡ spec.fits (mem_in meta rows cells slots) r n }
+    ensures { result ≡ spec.fits (lent meta.now rows.now cells.now slots.now) r n }
 {
     if r < 1 {
         return false;
@@ -57,7 +57,7 @@ fn is_damaged(
     cells: &[[u64; CELL_WORDS]],
     slots: &[[u64; WIDTH]],
 ) -> bool
-    ensures { result ≡ broken (mem_in meta rows cells slots) }
+    ensures { result ≡ broken (lent meta.now rows.now cells.now slots.now) }
 {
     // a shorter meta saves no sizes and no clock
     if meta.len() <= CLOCK {
@@ -76,7 +76,7 @@ pub fn check_store(
     cells: &[[u64; CELL_WORDS]],
     slots: &[[u64; WIDTH]],
 ) -> Verdict
-    ensures { result ≡ verdict (store_tests (mem_in meta rows cells slots)) }
+    ensures { result ≡ verdict (store_tests (lent meta.now rows.now cells.now slots.now)) }
 {
     if is_damaged(meta, rows, cells, slots) {
         return Verdict::DAMAGED;
@@ -134,7 +134,7 @@ pub fn check_slot(
     slot: u64,
     id: TxId,
 ) -> Verdict
-    ensures { result ≡ verdict (slot_tests (mem_in meta rows cells slots) slot id.0) }
+    ensures { result ≡ verdict (slot_tests (lent meta.now rows.now cells.now slots.now) slot id.0) }
 {
     let store = check_store(meta, rows, cells, slots);
     let Verdict::Fine = store else {

@@ -7,7 +7,7 @@ ghost use Rattle.std.proofs.lemmas.List.Edits.{sets};
 ghost use Rattle.words.specs.Sizes.{base};
 ghost use Rattle.rules.specs.Memory.{mem};
 ghost use Rattle.rules.specs.Lookup.{front_of};
-ghost use Rattle.rules.specs.Lent.{mem_in, mem_out};
+ghost use Rattle.rules.specs.Lent.{lent};
 ghost use Rattle.gate.specs.FineLaws.{SlotFine};
 ghost use Rattle.lookup.specs.LookupRest.{Filled, search_out, rows_out, lookup_rest, lookup_all_rest};
 
@@ -69,8 +69,8 @@ fn search(
     results: &mut [u64],
 ) -> Answer
     requires { SlotFine (mem {z = base} meta.now rows.now cells.now slots.old) slot id.0 }
-    ensures { Filled (search_out (mem_in meta rows cells slots) slot key marks.now late (length results.old))
-        result (mem_out meta rows cells slots) results.old results.new }
+    ensures { Filled (search_out (lent meta.now rows.now cells.now slots.old) slot key marks.now late (length results.old))
+        result (lent meta.now rows.now cells.now slots.new) results.old results.new }
 {
     let s = slot as usize;
     let mut copy = slots[s];
@@ -105,8 +105,8 @@ fn lookup_rows(
     results: &mut [u64],
 ) -> Answer
     requires { SlotFine (mem {z = base} meta.now rows.now cells.now slots.old) slot id.0 }
-    ensures { Filled (rows_out (mem_in meta rows cells slots) slot key candidates.now (length results.old))
-        result (mem_out meta rows cells slots) results.old results.new }
+    ensures { Filled (rows_out (lent meta.now rows.now cells.now slots.old) slot key candidates.now (length results.old))
+        result (lent meta.now rows.now cells.now slots.new) results.old results.new }
 {
     let s = slot as usize;
     let mut marks = [0; MOST_ROWS];
@@ -131,8 +131,8 @@ pub fn lookup(
     results: &mut [u64],
 ) -> Answer
     requires { SlotFine (mem {z = base} meta.now rows.now cells.now slots.old) slot id.0 }
-    ensures { Filled (lookup_rest (mem_in meta rows cells slots) slot key candidates.now (length results.old))
-        result (mem_out meta rows cells slots) results.old results.new }
+    ensures { Filled (lookup_rest (lent meta.now rows.now cells.now slots.old) slot key candidates.now (length results.old))
+        result (lent meta.now rows.now cells.now slots.new) results.old results.new }
 {
     match finds::check_candidates(candidates, meta[ROWS]) {
         Verdict::Refused { number, value } => Answer::Refused { number, value },
@@ -152,8 +152,8 @@ pub fn lookup_all(
     results: &mut [u64],
 ) -> Answer
     requires { SlotFine (mem {z = base} meta.now rows.now cells.now slots.old) slot id.0 }
-    ensures { Filled (lookup_all_rest (mem_in meta rows cells slots) slot key (length results.old))
-        result (mem_out meta rows cells slots) results.old results.new }
+    ensures { Filled (lookup_all_rest (lent meta.now rows.now cells.now slots.old) slot key (length results.old))
+        result (lent meta.now rows.now cells.now slots.new) results.old results.new }
 {
     let marks = [1; MOST_ROWS];
     search(

@@ -3,7 +3,7 @@
 #![tactic(auto)]
 
 ghost use Rattle.std.specs.Prelude.{◌≡◌, ℕ, ◌+◌, ◌≤◌, length, take};
-ghost use Rattle.rules.specs.Lent.{mem_in, mem_out};
+ghost use Rattle.rules.specs.Lent.{lent, mem_in, mem_out};
 ghost use Rattle.digits.specs.Numbers.{Laid};
 ghost use Rattle.lines.specs.Lines.{meaning};
 ghost use Rattle.answers.specs.Answers.{room};
@@ -111,7 +111,7 @@ fn sweep(
     numbers: &mut [u64],
 ) -> Said
     requires { length reports.old ≤ length numbers.old }
-    ensures { Acted (rooms_in reports numbers) (Line.Vacuum row request) (mem_in meta rows cells slots) (mem_out meta rows cells slots) result numbers.new }
+    ensures { Acted (rooms_in reports numbers) (Line.Vacuum row request) (lent meta.old rows.now cells.old slots.now) (lent meta.new rows.now cells.new slots.now) result numbers.new }
 {
     let a = store::vacuum(meta, rows, cells, slots, row, request, reports);
     copy_cells(reports, numbers, count_of(a));
@@ -128,7 +128,7 @@ fn look(
     id: u64,
     row: u64,
 ) -> Said
-    ensures { Plain (Line.Read slot id row) (mem_in meta rows cells slots) (mem_out meta rows cells slots) result }
+    ensures { Plain (Line.Read slot id row) (lent meta.now rows.now cells.now slots.old) (lent meta.now rows.now cells.now slots.new) result }
 {
     Said::Looked(store::read(meta, rows, cells, slots, slot, TxId(id), row))
 }
@@ -144,7 +144,7 @@ fn put(
     row: u64,
     key: u64,
 ) -> Said
-    ensures { Plain (Line.Write slot id row key) (mem_in meta rows cells slots) (mem_out meta rows cells slots) result }
+    ensures { Plain (Line.Write slot id row key) (lent meta.old rows.now cells.old slots.old) (lent meta.new rows.now cells.new slots.new) result }
 {
     let value = Value::Key(key);
     Said::Gave(store::write(meta, rows, cells, slots, slot, TxId(id), row, value))
@@ -160,7 +160,7 @@ fn erase(
     id: u64,
     row: u64,
 ) -> Said
-    ensures { Plain (Line.Delete slot id row) (mem_in meta rows cells slots) (mem_out meta rows cells slots) result }
+    ensures { Plain (Line.Delete slot id row) (lent meta.old rows.now cells.old slots.old) (lent meta.new rows.now cells.new slots.new) result }
 {
     let value = Value::Nothing;
     Said::Gave(store::write(meta, rows, cells, slots, slot, TxId(id), row, value))
@@ -177,7 +177,7 @@ fn find(
     key: u64,
     numbers: &mut [u64],
 ) -> Said
-    ensures { (k : ℕ) → Acted (rooms k (length numbers.old)) (Line.Find slot id key) (mem_in meta rows cells slots) (mem_out meta rows cells slots) result numbers.new }
+    ensures { (k : ℕ) → Acted (rooms k (length numbers.old)) (Line.Find slot id key) (lent meta.now rows.now cells.now slots.old) (lent meta.now rows.now cells.now slots.new) result numbers.new }
 {
     Said::Listed(store::lookup_all(meta, rows, cells, slots, slot, TxId(id), key, numbers))
 }

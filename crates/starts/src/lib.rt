@@ -8,7 +8,7 @@ ghost use Rattle.rules.specs.Memory.{mem};
 ghost use Rattle.rules.specs.Create.{create_out};
 ghost use Rattle.gate.specs.FineLaws.{StoreFine};
 ghost use Rattle.starts.specs.BeginLaws.{begin_rest};
-ghost use Rattle.rules.specs.Lent.{mem_in, mem_out};
+ghost use Rattle.rules.specs.Lent.{lent, mem_in, mem_out};
 
 use fresh::{clear_rows, clear_slots, free_cells, start};
 use gate::fits;
@@ -47,7 +47,7 @@ pub fn begin(
     slots: &mut [[u64; WIDTH]],
 ) -> Answer
     requires { StoreFine (mem {z = base} meta.old rows.now cells.now slots.old) }
-    ensures { out result [] (mem_out meta rows cells slots) ≡ begin_rest (mem_in meta rows cells slots) }
+    ensures { out result [] (lent meta.new rows.now cells.now slots.new) ≡ begin_rest (lent meta.old rows.now cells.now slots.old) }
 {
     let s = slots::lowest_empty(slots);
     if s >= SLOTS {

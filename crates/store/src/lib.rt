@@ -14,7 +14,7 @@ ghost use Rattle.rules.specs.Commit.{commit_out};
 ghost use Rattle.rules.specs.Abort.{abort_out};
 ghost use Rattle.rules.specs.Vacuum.{vacuum_out};
 ghost use Rattle.rules.specs.Lookup.{lookup_out, lookup_all_out, front_of};
-ghost use Rattle.rules.specs.Lent.{mem_in, mem_out};
+ghost use Rattle.rules.specs.Lent.{lent, mem_in, mem_out};
 
 use gate::{check_slot, check_store};
 use kinds::{Answer, ReadAnswer, Value, Verdict};
@@ -41,7 +41,7 @@ pub fn begin(
     cells: &[[u64; CELL_WORDS]],
     slots: &mut [[u64; WIDTH]],
 ) -> Answer
-    ensures { out result [] (mem_out meta rows cells slots) ≡ begin_out (mem_in meta rows cells slots) }
+    ensures { out result [] (lent meta.new rows.now cells.now slots.new) ≡ begin_out (lent meta.old rows.now cells.now slots.old) }
 {
     match check_store(meta, rows, cells, slots) {
         Verdict::Refused { number, value } => Answer::Refused { number, value },
@@ -59,7 +59,7 @@ pub fn read(
     id: TxId,
     row: u64,
 ) -> ReadAnswer
-    ensures { out result [] (mem_out meta rows cells slots) ≡ read_out (mem_in meta rows cells slots) slot id.0 row }
+    ensures { out result [] (lent meta.now rows.now cells.now slots.new) ≡ read_out (lent meta.now rows.now cells.now slots.old) slot id.0 row }
 {
     match check_slot(meta, rows, cells, slots, slot, id) {
         Verdict::Refused { number, value } => ReadAnswer::Refused { number, value },
@@ -78,7 +78,7 @@ pub fn write(
     row: u64,
     value: Value,
 ) -> Answer
-    ensures { out result [] (mem_out meta rows cells slots) ≡ write_out (mem_in meta rows cells slots) slot id.0 row (given value) }
+    ensures { out result [] (lent meta.new rows.now cells.new slots.new) ≡ write_out (lent meta.old rows.now cells.old slots.old) slot id.0 row (given value) }
 {
     match check_slot(meta, rows, cells, slots, slot, id) {
         Verdict::Refused { number, value } => Answer::Refused { number, value },
@@ -95,7 +95,7 @@ pub fn commit(
     slot: u64,
     id: TxId,
 ) -> Answer
-    ensures { out result [] (mem_out meta rows cells slots) ≡ commit_out (mem_in meta rows cells slots) slot id.0 }
+    ensures { out result [] (lent meta.now rows.new cells.new slots.new) ≡ commit_out (lent meta.now rows.old cells.old slots.old) slot id.0 }
 {
     match check_slot(meta, rows, cells, slots, slot, id) {
         Verdict::Refused { number, value } => Answer::Refused { number, value },
@@ -112,7 +112,7 @@ pub fn abort(
     slot: u64,
     id: TxId,
 ) -> Answer
-    ensures { out result [] (mem_out meta rows cells slots) ≡ abort_out (mem_in meta rows cells slots) slot id.0 }
+    ensures { out result [] (lent meta.new rows.now cells.new slots.new) ≡ abort_out (lent meta.old rows.now cells.old slots.old) slot id.0 }
 {
     match check_slot(meta, rows, cells, slots, slot, id) {
         Verdict::Refused { number, value } => Answer::Refused { number, value },
@@ -131,10 +131,10 @@ pub fn vacuum(
     request: u64,
     reports: &mut [[u64; 3]],
 ) -> Answer
-    ensures slots_value { out result (vacuum_out (mem_in meta rows cells slots) row request (length reports.old)).front (mem_out meta rows cells slots)
-        ≡ vacuum_out (mem_in meta rows cells slots) row request (length reports.old) }
+    ensures slots_value { out result (vacuum_out (lent meta.old rows.now cells.old slots.now) row request (length reports.old)).front (lent meta.new rows.now cells.new slots.now)
+        ≡ vacuum_out (lent meta.old rows.now cells.old slots.now) row request (length reports.old) }
     ensures reports_after { reports.new
-        ≡ sets reports.old 0 (vacuum_out (mem_in meta rows cells slots) row request (length reports.old)).front }
+        ≡ sets reports.old 0 (vacuum_out (lent meta.old rows.now cells.old slots.now) row request (length reports.old)).front }
 {
     match check_store(meta, rows, cells, slots) {
         Verdict::Refused { number, value } => Answer::Refused { number, value },
@@ -154,10 +154,10 @@ pub fn lookup(
     candidates: &[u64],
     results: &mut [u64],
 ) -> Answer
-    ensures slots_value { out result (lookup_out (mem_in meta rows cells slots) slot id.0 key candidates.now (length results.old)).front (mem_out meta rows cells slots)
-        ≡ lookup_out (mem_in meta rows cells slots) slot id.0 key candidates.now (length results.old) }
+    ensures slots_value { out result (lookup_out (lent meta.now rows.now cells.now slots.old) slot id.0 key candidates.now (length results.old)).front (lent meta.now rows.now cells.now slots.new)
+        ≡ lookup_out (lent meta.now rows.now cells.now slots.old) slot id.0 key candidates.now (length results.old) }
     ensures results_after { results.new
-        ≡ sets results.old 0 (lookup_out (mem_in meta rows cells slots) slot id.0 key candidates.now (length results.old)).front }
+        ≡ sets results.old 0 (lookup_out (lent meta.now rows.now cells.now slots.old) slot id.0 key candidates.now (length results.old)).front }
 {
     match check_slot(meta, rows, cells, slots, slot, id) {
         Verdict::Refused { number, value } => Answer::Refused { number, value },
@@ -178,10 +178,10 @@ pub fn lookup_all(
     key: u64,
     results: &mut [u64],
 ) -> Answer
-    ensures slots_value { out result (lookup_all_out (mem_in meta rows cells slots) slot id.0 key (length results.old)).front (mem_out meta rows cells slots)
-        ≡ lookup_all_out (mem_in meta rows cells slots) slot id.0 key (length results.old) }
+    ensures slots_value { out result (lookup_all_out (lent meta.now rows.now cells.now slots.old) slot id.0 key (length results.old)).front (lent meta.now rows.now cells.now slots.new)
+        ≡ lookup_all_out (lent meta.now rows.now cells.now slots.old) slot id.0 key (length results.old) }
     ensures results_after { results.new
-        ≡ sets results.old 0 (lookup_all_out (mem_in meta rows cells slots) slot id.0 key (length results.old)).front }
+        ≡ sets results.old 0 (lookup_all_out (lent meta.now rows.now cells.now slots.old) slot id.0 key (length results.old)).front }
 {
     match check_slot(meta, rows, cells, slots, slot, id) {
         Verdict::Refused { number, value } => Answer::Refused { number, value },

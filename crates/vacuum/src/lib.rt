@@ -13,7 +13,7 @@ ghost use Rattle.rules.specs.Snapshot.{horizon_of};
 ghost use Rattle.rules.specs.Outcome.{out};
 ghost use Rattle.rules.specs.Abort.{give_back};
 ghost use Rattle.rules.specs.Vacuum as rule;
-ghost use Rattle.rules.specs.Lent.{mem_in, mem_out};
+ghost use Rattle.rules.specs.Lent.{lent};
 ghost use Rattle.gate.specs.FineLaws.{StoreFine};
 ghost use Rattle.vacuum.specs.Sweeping.{Sweepable, gone, stays};
 ghost use Rattle.vacuum.specs.Rest.{vacuum_rest};
@@ -92,10 +92,10 @@ pub fn vacuum(
     reports: &mut [[u64; 3]],
 ) -> Answer
     requires { StoreFine (mem {z = base} meta.old rows.now cells.old slots.now) }
-    ensures slots_value { out result (vacuum_rest (mem_in meta rows cells slots) row request (length reports.old)).front (mem_out meta rows cells slots)
-        ≡ vacuum_rest (mem_in meta rows cells slots) row request (length reports.old) }
+    ensures slots_value { out result (vacuum_rest (lent meta.old rows.now cells.old slots.now) row request (length reports.old)).front (lent meta.new rows.now cells.new slots.now)
+        ≡ vacuum_rest (lent meta.old rows.now cells.old slots.now) row request (length reports.old) }
     ensures reports_after { reports.new
-        ≡ sets reports.old 0 (vacuum_rest (mem_in meta rows cells slots) row request (length reports.old)).front }
+        ≡ sets reports.old 0 (vacuum_rest (lent meta.old rows.now cells.old slots.now) row request (length reports.old)).front }
 {
     if meta[ROWS] <= row {
         return refused(BAD_ROW, row);

@@ -1,0 +1,13 @@
+use Rattle.chains.specs.Linking.{Linking, linking_start, linking_next, linking_less, linking_end, linking_size}
+use Rattle.chains.specs.Lines.{line}
+use lib.ListN.{length}
+use borrow.Author.Rules.{rules}
+use native.Mathlib.Omega.{arith}
+use mathlib.Core.Path.{◌∙◌}
+use Rattle.chains.proofs.relink.Given as goal
+
+abbrev pub invariant-loop-c : goal.invariant-loop-c
+invariant-loop-c l = Linking l.initial.cells l.horizon l.initial.last.0 l.initial.c.0 l.last.0 l.c.0 l.cells
+
+abbrev pub decreases-loop-c : goal.decreases-loop-c
+decreases-loop-c l = length (line l.initial.cells l.c.0)

@@ -1,0 +1,11 @@
+use mathlib.Core.Path.{sym, ◌∙◌}
+use Rattle.rules.specs.Verdicts.{verdict_fails, verdict_passes}
+use borrow.Author.Tests.{lt-ltb, le-ltb}
+use borrow.Author.Rules.{rules}
+use Rattle.undo.proofs.check_entry.Goals as goal
+
+pub returns-then-n-base : goal.returns-then-n-base
+returns-then-n-base c = sym (verdict_fails _ _ (lt-ltb _ _ c.if-n-base.true))
+
+pub returns : goal.returns
+returns c = c.check_cell.ensures ∙ sym (verdict_passes _ _ (le-ltb _ _ c.if-n-base.false))
