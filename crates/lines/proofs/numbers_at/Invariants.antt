@@ -1,0 +1,12 @@
+use borrow.Author.Rules.{rules}
+use native.Mathlib.Omega.{arith}
+use lib.ListN.{length}
+use Prim.Native.Nat.{◌-◌, ◌≤◌}
+use Rattle.lines.specs.Fields.{step_end, Going, going_none, going_end, going_bad, going_more}
+use Rattle.lines.proofs.numbers_at.Given as goal
+
+abbrev pub invariant-loop-left : goal.invariant-loop-left
+invariant-loop-left l = (l.end ≤ length l.s) × Going l.s l.at l.n l.left l.a l.b l.c l.end
+
+abbrev pub decreases-loop-left : goal.decreases-loop-left
+decreases-loop-left l = l.left
