@@ -228,7 +228,7 @@ pub fn perform(
     ensures upper_bound { result ≤ length out.new }
     ensures laid { Laid out.old out.new at result
         (performed (rooms_in reports numbers) (meaning text.now) (mem_in meta rows cells slots)).line }
-    ensures slots_value { mem_out meta rows cells slots
+    ensures memory_after { mem_out meta rows cells slots
         ≡ (performed (rooms_in reports numbers) (meaning text.now) (mem_in meta rows cells slots)).after }
 {
     let line = lines::parse_line(text);

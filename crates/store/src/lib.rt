@@ -131,7 +131,7 @@ pub fn vacuum(
     request: u64,
     reports: &mut [[u64; 3]],
 ) -> Answer
-    ensures slots_value { out result (vacuum_out (lent meta.old rows.now cells.old slots.now) row request (length reports.old)).front (lent meta.new rows.now cells.new slots.now)
+    ensures outcome { out result (vacuum_out (lent meta.old rows.now cells.old slots.now) row request (length reports.old)).front (lent meta.new rows.now cells.new slots.now)
         ≡ vacuum_out (lent meta.old rows.now cells.old slots.now) row request (length reports.old) }
     ensures reports_after { reports.new
         ≡ sets reports.old 0 (vacuum_out (lent meta.old rows.now cells.old slots.now) row request (length reports.old)).front }
@@ -154,7 +154,7 @@ pub fn lookup(
     candidates: &[u64],
     results: &mut [u64],
 ) -> Answer
-    ensures slots_value { out result (lookup_out (lent meta.now rows.now cells.now slots.old) slot id.0 key candidates.now (length results.old)).front (lent meta.now rows.now cells.now slots.new)
+    ensures outcome { out result (lookup_out (lent meta.now rows.now cells.now slots.old) slot id.0 key candidates.now (length results.old)).front (lent meta.now rows.now cells.now slots.new)
         ≡ lookup_out (lent meta.now rows.now cells.now slots.old) slot id.0 key candidates.now (length results.old) }
     ensures results_after { results.new
         ≡ sets results.old 0 (lookup_out (lent meta.now rows.now cells.now slots.old) slot id.0 key candidates.now (length results.old)).front }
@@ -178,7 +178,7 @@ pub fn lookup_all(
     key: u64,
     results: &mut [u64],
 ) -> Answer
-    ensures slots_value { out result (lookup_all_out (lent meta.now rows.now cells.now slots.old) slot id.0 key (length results.old)).front (lent meta.now rows.now cells.now slots.new)
+    ensures outcome { out result (lookup_all_out (lent meta.now rows.now cells.now slots.old) slot id.0 key (length results.old)).front (lent meta.now rows.now cells.now slots.new)
         ≡ lookup_all_out (lent meta.now rows.now cells.now slots.old) slot id.0 key (length results.old) }
     ensures results_after { results.new
         ≡ sets results.old 0 (lookup_all_out (lent meta.now rows.now cells.now slots.old) slot id.0 key (length results.old)).front }

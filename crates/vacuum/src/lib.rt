@@ -92,7 +92,7 @@ pub fn vacuum(
     reports: &mut [[u64; 3]],
 ) -> Answer
     requires { StoreFine (mem {z = base} meta.old rows.now cells.old slots.now) }
-    ensures slots_value { out result (vacuum_rest (lent meta.old rows.now cells.old slots.now) row request (length reports.old)).front (lent meta.new rows.now cells.new slots.now)
+    ensures outcome { out result (vacuum_rest (lent meta.old rows.now cells.old slots.now) row request (length reports.old)).front (lent meta.new rows.now cells.new slots.now)
         ≡ vacuum_rest (lent meta.old rows.now cells.old slots.now) row request (length reports.old) }
     ensures reports_after { reports.new
         ≡ sets reports.old 0 (vacuum_rest (lent meta.old rows.now cells.old slots.now) row request (length reports.old)).front }

@@ -1,0 +1,14 @@
+use Rattle.perform.specs.Laws.{cells_none, cells_more}
+use Rattle.perform.specs.Perform.{cells_of}
+use native.Mathlib.Omega.{arith}
+use borrow.Author.Rules.{rules}
+use lib.ListN.{length, take, length-set}
+use mathlib.Core.Path.{◌≡◌, refl}
+use Prim.Native.Nat.{◌≤◌, ◌-◌}
+use Rattle.perform.proofs.copy_cells.Given as goal
+
+abbrev pub invariant-loop-i : goal.invariant-loop-i
+invariant-loop-i l = (l.i ≤ l.n) × (length l.numbers ≡ length l.initial.numbers) × (take l.i l.numbers ≡ cells_of (take l.i l.reports))
+
+abbrev pub decreases-loop-i : goal.decreases-loop-i
+decreases-loop-i l = l.n - l.i

@@ -1,0 +1,18 @@
+use Rattle.lookup.specs.LookupRest.{lookup_split}
+use Rattle.gate.specs.FineLaws.{slot_fine}
+use Rattle.store.specs.Tested.{tested_refused, tested_fine, told_over, told_refused}
+use mathlib.Core.Path.{sym, ◌∙◌}
+use borrow.Author.Rules.{rules}
+use Rattle.store.proofs.lookup.Goals as goal
+
+by_outcome_and_results_after : {A B : Type 0} → A × B → record { outcome : A; results_after : B }
+by_outcome_and_results_after w = record { outcome = w.0; results_after = w.1 }
+
+pub lookup-requires : goal.lookup-requires
+lookup-requires c = slot_fine _ _ _ (sym c.check_slot.ensures ∙ c.in-Fine.is)
+
+pub returns-in-Refused : goal.returns-in-Refused
+returns-in-Refused c = by_outcome_and_results_after (told_refused _ _ _ _ _ (tested_refused _ _ _ _ (lookup_split _ _ _ _ _ _) _ _ (sym c.check_slot.ensures ∙ c.in-Refused.is)))
+
+pub returns-in-Fine : goal.returns-in-Fine
+returns-in-Fine c = by_outcome_and_results_after (told_over _ _ _ _ _ _ (tested_fine _ _ _ _ (lookup_split _ _ _ _ _ _) (sym c.check_slot.ensures ∙ c.in-Fine.is)) (c.lookup.ensures.outcome, c.lookup.ensures.buffer))

@@ -1,0 +1,15 @@
+use Rattle.access.specs.ReadRest.{read_split}
+use Rattle.gate.specs.FineLaws.{slot_fine}
+use Rattle.store.specs.Tested.{tested_refused, tested_fine}
+use mathlib.Core.Path.{sym, ◌∙◌}
+use borrow.Author.Rules.{rules}
+use Rattle.store.proofs.read.Goals as goal
+
+pub read-requires : goal.read-requires
+read-requires c = slot_fine _ _ _ (sym c.check_slot.ensures ∙ c.in-Fine.is)
+
+pub returns-in-Refused : goal.returns-in-Refused
+returns-in-Refused c = tested_refused _ _ _ _ (read_split _ _ _ _) _ _ (sym c.check_slot.ensures ∙ c.in-Refused.is)
+
+pub returns-in-Fine : goal.returns-in-Fine
+returns-in-Fine c = c.read.ensures ∙ tested_fine _ _ _ _ (read_split _ _ _ _) (sym c.check_slot.ensures ∙ c.in-Fine.is)
