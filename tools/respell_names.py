@@ -29,7 +29,7 @@ CHOSEN = {
     name: snake(name) + "_lem"
     for name in "at-end chain-at end_by front_of is-cell is-key last-in lookup-end new-of new-version no-version opened-at own-write "
     "publish-all put-cell read-end row-chain rows-read snap-top some-cell swept-to unlock-base vacuum-now write-now write-stores".split()
-} | {"beyond": "BeyondHere", "fullSet": "FullHere", "tooLong": "too_long"}
+} | {"beyond": "BeyondHere", "fullSet": "FullHere", "tooLong": "too_long", "goesOn": "goes_on"}
 
 
 def texts(endings):

@@ -12,7 +12,7 @@ use Rattle.kinds.specs.Versions.{version_at}
 use Rattle.words.specs.Slots.{Rec, add_rec}
 use Rattle.rules.specs.Memory.{Mem, mem, size_r, words_at, slot_at}
 use Rattle.rules.specs.Outcome.{Outcome, out, guard, refuse_read, slot_tests, row_test}
-use Rattle.rules.specs.Verdicts.{guard_append}
+use Rattle.rules.proofs.Verdicts.{guard_append}
 use Rattle.rules.specs.Read.{Sight, blocked, sees, answer_at, read_at, read_end, read_out}
 
 module _ {z : Sizes} (m : Mem z) (s row : ℕ) where

@@ -15,10 +15,11 @@ use Rattle.kinds.specs.Versions.{at, with_value, new_version, version_at, link_a
 use Rattle.words.specs.Slots.{Write, write, add_write}
 use Rattle.rules.specs.Memory.{Mem, mem, size_r, size_n, free, head_at, words_at, slot_at}
 use Rattle.rules.specs.Outcome.{Outcome, out, test, guard, refuse, slot_tests, row_test, is_cell}
-use Rattle.rules.specs.Verdicts.{verdict, guard_fine, guard_refused, guard_append}
+use Rattle.rules.specs.Verdicts.{verdict}
+use Rattle.rules.proofs.Verdicts.{guard_fine, guard_refused, guard_append}
 use Rattle.rules.specs.Read.{own}
 use Rattle.rules.specs.Write.{lock_base, prepared, replaced, head_tests, write_now, write_out}
-use Rattle.rules.specs.Theory.Cases.{by_bool}
+use Rattle.rules.proofs.Theory.Cases.{by_bool}
 use Rattle.reads.specs.declared.Own.{Own}
 use Rattle.reads.specs.Found.{own_of}
 use Rattle.writes.specs.Room.{room_tests}

@@ -12,8 +12,10 @@ use Rattle.kinds.specs.Versions.{empty_version, put_cell}
 use Rattle.rules.specs.Memory.{mem}
 use Rattle.rules.specs.Abort.{give_back}
 use Rattle.rules.specs.Vacuum.{report_of, reports}
-use Rattle.rules.specs.Theory.CellLaws.{HasCell, length_put}
-use Rattle.rules.specs.Theory.Bridge.{AllCells, all_cells}
+use Rattle.rules.specs.Theory.CellLaws.{HasCell}
+use Rattle.rules.proofs.Theory.CellLaws.{length_put}
+use Rattle.rules.specs.Theory.Bridge.{AllCells}
+use Rattle.rules.proofs.Theory.Bridge.{all_cells}
 
 -- the first words of k reports, from place i on
 unfoldable pub fronts : List (List ℕ) → ℕ → ℕ → List ℕ

@@ -9,14 +9,15 @@ use Rattle.std.proofs.Math.Path.{◌≡◌, ap}
 use borrow.Author.Tests.{eq-eqb, ne_eqb, lt-ltb, le-ltb, ltb-false, eqb-false}
 use Rattle.kinds.specs.declared.Version.{Version}
 use Rattle.kinds.specs.Versions.{version_at}
-use Rattle.rules.specs.Chain.{ends, goesOn, broken, Chain, chained, chain}
-use Rattle.rules.specs.Theory.Cases.{by_bool, by_eq}
+use Rattle.rules.specs.Chain.{ends, goes_on, broken, Chain, chained, chain}
+use Rattle.rules.proofs.Theory.Cases.{by_bool, by_eq}
 use Rattle.words.specs.Lists.{keep}
 use Rattle.rules.specs.Theory.CellLaws.{HasCell}
 use Rattle.rules.specs.Theory.Bridge.{AllCells}
-use Rattle.rules.specs.Theory.Counting.{cnt, cnt_other}
+use Rattle.rules.specs.Theory.Counting.{cnt}
+use Rattle.rules.proofs.Theory.Counting.{cnt_other}
 use Rattle.rules.specs.Theory.Inv.{Spelled}
-use Rattle.rules.specs.Theory.Chains.{spelled_same}
+use Rattle.rules.proofs.Theory.Chains.{spelled_same}
 
 -- ---- a walk, pointer by pointer
 
@@ -26,7 +27,7 @@ module _ (n : ℕ) (f : ℕ → Version) where
   chain_end zero c e = rw (eq-eqb c 0 e)
   chain_end (suc k) c e = rw (eq-eqb c 0 e)
 
-  pub chain_limit : (k c : ℕ) → k ≡ 0 → c ≢ 0 → chain n f k c ≡ chained [] goesOn
+  pub chain_limit : (k c : ℕ) → k ≡ 0 → c ≢ 0 → chain n f k c ≡ chained [] goes_on
   unfolding chain
   chain_limit k c z e = rw (z, ne_eqb c 0 e)
 

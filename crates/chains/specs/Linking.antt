@@ -8,9 +8,11 @@ use Rattle.words.specs.Lists.{keep}
 use Rattle.kinds.specs.Versions.{with_next, version_at, link_at, put_version}
 use Rattle.rules.specs.Vacuum.{relink}
 use Rattle.kinds.specs.Versions.{reclaimable}
-use Rattle.rules.specs.Theory.Cases.{by_bool}
-use Rattle.rules.specs.Theory.CellLaws.{HasCell, length_put, put_off}
-use Rattle.rules.specs.Theory.Counting.{cnt, cnt_head, cnt_tail}
+use Rattle.rules.proofs.Theory.Cases.{by_bool}
+use Rattle.rules.specs.Theory.CellLaws.{HasCell}
+use Rattle.rules.proofs.Theory.CellLaws.{length_put, put_off}
+use Rattle.rules.specs.Theory.Counting.{cnt}
+use Rattle.rules.proofs.Theory.Counting.{cnt_head, cnt_tail}
 use Rattle.chains.specs.Lines.{Ends, line, line_end, line_cell, line_next, line_once, ends_next}
 use Rattle.chains.specs.Tallies.{dead, alive}
 

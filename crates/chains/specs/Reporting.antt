@@ -9,7 +9,7 @@ use Rattle.words.specs.Lists.{keep}
 use Rattle.kinds.specs.Versions.{version_at}
 use Rattle.rules.specs.Vacuum.{report_of, reports}
 use Rattle.kinds.specs.Versions.{reclaimable}
-use Rattle.rules.specs.Theory.Cases.{by_bool}
+use Rattle.rules.proofs.Theory.Cases.{by_bool}
 use Rattle.chains.specs.Lines.{Ends, line, line_end, line_next, ends_next}
 use Rattle.chains.specs.Tallies.{dead}
 

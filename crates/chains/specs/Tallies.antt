@@ -6,9 +6,9 @@ use mir.Val.{bool_byte}
 use Rattle.kinds.specs.declared.Version.{Version}
 use Rattle.words.specs.Lists.{keep}
 use Rattle.kinds.specs.Versions.{version_at}
-use Rattle.rules.specs.Chain.{After, ends, goesOn, broken, Chain, chain}
+use Rattle.rules.specs.Chain.{After, ends, goes_on, broken, Chain, chain}
 use Rattle.kinds.specs.Versions.{reclaimable}
-use Rattle.rules.specs.Theory.Cases.{by_bool}
+use Rattle.rules.proofs.Theory.Cases.{by_bool}
 use Rattle.chains.specs.declared.Tally.{Tally}
 use Rattle.chains.specs.declared.Tally.TheVariants.{Harmed, Sound}
 use Rattle.chains.specs.Lines.{chain_end, chain_limit, chain_broken, chain_next}
@@ -22,7 +22,7 @@ alive cs hz c = not (reclaimable hz (version_at cs c))
 
 abbrev tally_of : (ℕ → Bool) → ℕ → List ℕ → After → Tally
 tally_of p k l ends = Sound (k + length (keep p l))
-tally_of p k l goesOn = Harmed
+tally_of p k l goes_on = Harmed
 tally_of p k l broken = Harmed
 
 -- k counted before
@@ -32,7 +32,7 @@ tally p k a = tally_of p k a.cells a.after
 tally_cons : (p : ℕ → Bool) (k c : ℕ) (l : List ℕ) (a : After) → tally_of p k (c ∷ l) a ≡ tally_of p (k + bool_byte (p c)) l a
 unfolding keep
 tally_cons p k c l ends = ap Sound (by_bool (p c) (λ e. rw e (omega arith)) (λ e. rw e (omega arith)))
-tally_cons p k c l goesOn = refl
+tally_cons p k c l goes_on = refl
 tally_cons p k c l broken = refl
 
 module _ (n : ℕ) (f : ℕ → Version) (p : ℕ → Bool) (k : ℕ) where
@@ -55,7 +55,7 @@ module _ (n : ℕ) (f : ℕ → Version) (p : ℕ → Bool) (k : ℕ) where
 -- what a sound chain has shown
 tally_sound : (p : ℕ → Bool) (k x : ℕ) (l : List ℕ) (a : After) → tally_of p k l a ≡ Sound x → (a ≡ ends) × (x ≡ k + length (keep p l))
 tally_sound p k x l ends e = (refl, let q : k + length (keep p l) ≡ x = cc in sym q)
-tally_sound p k x l goesOn e = absurd (let q : ◌≡◌ {A = ℕ} 0 1 = cc in omega arith)
+tally_sound p k x l goes_on e = absurd (let q : ◌≡◌ {A = ℕ} 0 1 = cc in omega arith)
 tally_sound p k x l broken e = absurd (let q : ◌≡◌ {A = ℕ} 0 1 = cc in omega arith)
 
 pub sound : (p : ℕ → Bool) (x : ℕ) (a : Chain) → tally p 0 a ≡ Sound x → (a.after ≡ ends) × (x ≡ length (keep p a.cells))

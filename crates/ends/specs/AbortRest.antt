@@ -11,7 +11,8 @@ use Rattle.words.specs.Lists.{fold}
 use Rattle.words.specs.Slots.{emptied}
 use Rattle.rules.specs.Memory.{Mem, mem, slot_at, with_slot, with_cells}
 use Rattle.rules.specs.Outcome.{Outcome, out, guard, each, refuse, slot_tests}
-use Rattle.rules.specs.Verdicts.{verdict, guard_append, guard_fine, guard_refused}
+use Rattle.rules.specs.Verdicts.{verdict}
+use Rattle.rules.proofs.Verdicts.{guard_append, guard_fine, guard_refused}
 use Rattle.rules.specs.Abort.{abort_tests, unlock_base, give_back, news, abort_out}
 
 module _ {z : Sizes} (m : Mem z) (s id : ℕ) where

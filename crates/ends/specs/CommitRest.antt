@@ -10,7 +10,8 @@ use Rattle.words.specs.Sizes.{Sizes}
 use Rattle.words.specs.Slots.{emptied}
 use Rattle.rules.specs.Memory.{Mem, mem, slot_at, with_slot}
 use Rattle.rules.specs.Outcome.{Outcome, out, guard, refuse, slot_tests}
-use Rattle.rules.specs.Verdicts.{verdict, guard_append, guard_fine, guard_refused}
+use Rattle.rules.specs.Verdicts.{verdict}
+use Rattle.rules.proofs.Verdicts.{guard_append, guard_fine, guard_refused}
 use Rattle.rules.specs.Commit.{commit_tests, publish_all, commit_out}
 
 module _ {z : Sizes} (m : Mem z) (s id : ℕ) where

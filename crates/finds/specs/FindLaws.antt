@@ -18,8 +18,9 @@ use Rattle.kinds.specs.Visible.{visible, creator_visible}
 use Rattle.rules.specs.Chain.{look}
 use Rattle.rules.specs.Read.{answer_at, Sight, blocked, sees, own, recorded, sight_of, own_sight, read_row, read_at}
 use Rattle.rules.specs.Lookup.{Found, stopped, got, is_key, list_row, find_row, find}
-use Rattle.rules.specs.Theory.Cases.{by_bool}
-use Rattle.rules.specs.Theory.SlotLaws.{SlotOk, with_recs, put_recs, slot_recs, recs_length}
+use Rattle.rules.proofs.Theory.Cases.{by_bool}
+use Rattle.rules.specs.Theory.SlotLaws.{SlotOk, with_recs, put_recs}
+use Rattle.rules.proofs.Theory.SlotLaws.{slot_recs, recs_length}
 use Rattle.reads.specs.declared.Found as F
 use Rattle.reads.specs.Found.{found_of}
 use Rattle.reads.specs.Sights.{record_of, sight_found, read_row_is}

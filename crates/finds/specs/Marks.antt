@@ -10,9 +10,10 @@ use Rattle.rules.specs.Numbers.{bad_row, damaged}
 use Rattle.words.specs.Lists.{has, fold, nonzero}
 use Rattle.words.specs.Slots.{write, threes}
 use Rattle.rules.specs.Outcome.{Test, test, each}
-use Rattle.rules.specs.Verdicts.{verdict, verdict_none, verdict_each}
+use Rattle.rules.specs.Verdicts.{verdict}
+use Rattle.rules.proofs.Verdicts.{verdict_none, verdict_each}
 use Rattle.rules.specs.Lookup.{own_rows}
-use Rattle.rules.specs.Theory.Cases.{by_bool, by_eq}
+use Rattle.rules.proofs.Theory.Cases.{by_bool, by_eq}
 use Rattle.words.specs.WordLaws.{threes_step, threes_done}
 
 -- rows that no store has are passed over

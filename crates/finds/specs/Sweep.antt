@@ -11,7 +11,7 @@ use Rattle.words.specs.Lists.{keep, fold, from, nonzero}
 use Rattle.words.specs.Slots.{Rec, slot_of, add_rec, add_recs}
 use Rattle.rules.specs.Read.{answer_at, Sight, blocked, sees, read_row}
 use Rattle.rules.specs.Lookup.{is_key}
-use Rattle.rules.specs.Theory.Cases.{by_bool}
+use Rattle.rules.proofs.Theory.Cases.{by_bool}
 use Rattle.finds.specs.declared.Listing.{Listing}
 
 -- what the rows came to, and the list of them

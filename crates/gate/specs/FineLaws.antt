@@ -9,7 +9,8 @@ use Rattle.words.specs.Sizes.{Sizes, meta_words, ID, ACTIVE, WRITES, READS}
 use Rattle.rules.specs.Numbers.{bad_slot, not_owner, damaged}
 use Rattle.rules.specs.Memory.{Mem, size_r, size_n, clock, words_at}
 use Rattle.rules.specs.Outcome.{Test, test, fits, store_tests, slot_tests}
-use Rattle.rules.specs.Verdicts.{verdict, and_then, verdict_append, verdict_fails, verdict_passes}
+use Rattle.rules.specs.Verdicts.{verdict, and_then}
+use Rattle.rules.proofs.Verdicts.{verdict_append, verdict_fails, verdict_passes}
 
 -- ---- each test, as it fails
 

@@ -8,7 +8,8 @@ use Rattle.words.specs.Sizes.{base}
 use Rattle.words.specs.Lists.{fold}
 use Rattle.rules.specs.Memory.{Mem, size_r, slot_at}
 use Rattle.rules.specs.Outcome.{each, refuse}
-use Rattle.rules.specs.Verdicts.{verdict, guard_fine, guard_refused}
+use Rattle.rules.specs.Verdicts.{verdict}
+use Rattle.rules.proofs.Verdicts.{guard_fine, guard_refused}
 use Rattle.rules.specs.Lookup.{find, candidate_tests, own_row_tests, own_rows, rows_to_read}
 use Rattle.finds.specs.Marks.{marked}
 use Rattle.lookup.specs.RowLaws.{zeros, ones, rows_marked, rows_all}

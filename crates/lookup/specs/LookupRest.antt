@@ -11,7 +11,8 @@ use Rattle.words.specs.Lists.{from}
 use Rattle.words.specs.Slots.{Rec, add_recs}
 use Rattle.rules.specs.Memory.{Mem, size_r, words_at, slot_at, with_slot}
 use Rattle.rules.specs.Outcome.{Outcome, out, Test, guard, each, refuse, slot_tests}
-use Rattle.rules.specs.Verdicts.{verdict, guard_append, guard_fine, guard_refused}
+use Rattle.rules.specs.Verdicts.{verdict}
+use Rattle.rules.proofs.Verdicts.{guard_append, guard_fine, guard_refused}
 use Rattle.rules.specs.Lookup.{Found, stopped, got, find, lookup_end, candidate_tests, own_row_tests, own_rows, rows_to_read, lookup_out, lookup_all_out}
 use Rattle.finds.specs.Sweep.{marked_rows}
 

@@ -10,7 +10,7 @@ use Rattle.words.specs.Lists.{has, fold, keep, from, nonzero}
 use Rattle.words.specs.Slots.{Write}
 use Rattle.rules.specs.Memory.{Mem, size_r}
 use Rattle.rules.specs.Lookup.{own_rows, rows_to_read}
-use Rattle.rules.specs.Theory.Cases.{by_bool}
+use Rattle.rules.proofs.Theory.Cases.{by_bool}
 use Rattle.finds.specs.Marks.{marked, marks_has, marks_length}
 use Rattle.finds.specs.Sweep.{marked_rows}
 

@@ -14,7 +14,7 @@ use Rattle.words.specs.Lists.{keep, fold, from}
 use Rattle.kinds.specs.Versions.{version_at}
 use Rattle.words.specs.Slots.{Rec, Slot}
 use Rattle.rules.specs.Memory.{Mem, size_n, size_r, head_at, slot_at}
-use Rattle.rules.specs.Chain.{After, ends, goesOn, broken, chain}
+use Rattle.rules.specs.Chain.{After, ends, goes_on, broken, chain}
 use Rattle.rules.specs.Snapshot.{horizon}
 use Rattle.rules.specs.Outcome.{Outcome, Test, test, guard, refuse, store_tests, slot_tests, row_test}
 use Rattle.rules.specs.Read.{Sight, blocked, sees, answer_at, read_at}
@@ -62,8 +62,8 @@ module _ {z : Sizes} (room : ℕ) (m : Mem z) where
 
   now_counted : (hz : ℕ) (l : List ℕ) (a : After) → Counted room (vacuum_now m hz room l a)
   unfolding vacuum_now
-  now_counted hz [] goesOn = counted_refusal room m _ _
-  now_counted hz (h ∷ l) goesOn = counted_refusal room m _ _
+  now_counted hz [] goes_on = counted_refusal room m _ _
+  now_counted hz (h ∷ l) goes_on = counted_refusal room m _ _
   now_counted hz [] broken = counted_refusal room m _ _
   now_counted hz (h ∷ l) broken = counted_refusal room m _ _
   now_counted hz [] ends = record { count = refl; fits = omega arith }

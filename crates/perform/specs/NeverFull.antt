@@ -7,7 +7,8 @@ use Rattle.rules.specs.Numbers.{result_full}
 use Rattle.rules.specs.Memory.{Mem}
 use Rattle.rules.specs.Run.{Call, step}
 use Rattle.rules.specs.EveryRefusal.{RefusedAs}
-use Rattle.rules.specs.BufferForAll.{PlaceForAll, no_call_with_a_place_for_all_answers_14}
+use Rattle.rules.specs.BufferForAll.{PlaceForAll}
+use Rattle.rules.proofs.BufferForAll.{no_call_with_a_place_for_all_answers_14}
 use Rattle.lines.specs.declared.Line.{Line}
 use Rattle.perform.specs.Perform.{Rooms, call_of}
 

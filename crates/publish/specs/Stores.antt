@@ -14,11 +14,13 @@ use Rattle.kinds.specs.Versions.{with_xmax, with_next, unlocked, words_of, versi
 use Rattle.words.specs.Slots.{Write}
 use Rattle.rules.specs.Memory.{Mem, mem, with_head, with_cells}
 use Rattle.rules.specs.Commit.{mark_base, publish, publish_all}
-use Rattle.rules.specs.Theory.Bridge.{AllIn, has_cell}
-use Rattle.rules.specs.Theory.Cases.{by_eq}
-use Rattle.rules.specs.Theory.CellLaws.{HasCell, length_put, put_on, put_link, put_else, put_off}
+use Rattle.rules.specs.Theory.Bridge.{AllIn}
+use Rattle.rules.proofs.Theory.Bridge.{has_cell}
+use Rattle.rules.proofs.Theory.Cases.{by_eq}
+use Rattle.rules.specs.Theory.CellLaws.{HasCell}
+use Rattle.rules.proofs.Theory.CellLaws.{length_put, put_on, put_link, put_else, put_off}
 use Rattle.rules.specs.Reachable.{All}
-use Rattle.rules.specs.Theory.Inv.{all_map}
+use Rattle.rules.proofs.Theory.Inv.{all_map}
 
 -- a base is marked, a new version linked to its base, a row's head moved
 pub data Store : Type 0 where

@@ -8,7 +8,7 @@ use Rattle.words.specs.Lists.{last, or_else}
 use Rattle.words.specs.Slots.{Write, write, rec, threes}
 use Rattle.rules.specs.Read.{own, recorded}
 use Rattle.words.specs.WordLaws.{threes_step, threes_done}
-use Rattle.rules.specs.Theory.SlotLaws.{threes_more}
+use Rattle.rules.proofs.Theory.SlotLaws.{threes_more}
 
 -- the last of a list with one member more
 last_snoc : {A : Type 0} (p : A → Bool) (l : List A) (a : A) → last p (l ++ (a ∷ [])) ≡ cond (p a) (some a) (last p l)

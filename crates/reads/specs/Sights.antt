@@ -4,7 +4,7 @@ use Rattle.std.proofs.Math.Bool.{true, false, cond}
 use Rattle.std.proofs.Math.Option.{Option, none, some}
 use Rattle.std.proofs.Math.Path.{refl}
 use Rattle.std.proofs.Common.{sym, ◌∙◌, arith, leb-false}
-use Rattle.rules.specs.Theory.Cases.{by_bool}
+use Rattle.rules.proofs.Theory.Cases.{by_bool}
 use Rattle.kinds.specs.declared.Version.{Version}
 use Rattle.words.specs.Sizes.{base, READS}
 use Rattle.rules.specs.Numbers.{chain_too_long, read_set_full, damaged}
@@ -13,7 +13,7 @@ use Rattle.rules.specs.Chain.{Look, found, nothing, too_long, harmed, look}
 use Rattle.rules.specs.Outcome.{is_cell}
 use Rattle.rules.specs.Read as R
 use Rattle.rules.specs.Read.{blocked, sees, own, recorded, sight_of, own_sight, read_row}
-use Rattle.rules.specs.Theory.SlotLaws.{length_threes}
+use Rattle.rules.proofs.Theory.SlotLaws.{length_threes}
 use Rattle.reads.specs.declared.Found.{Found}
 use Rattle.reads.specs.declared.Sight.{Sight}
 use Rattle.reads.specs.Found.{found_of}

@@ -8,7 +8,7 @@ use Rattle.kinds.specs.Visible.{visible}
 
 -- what comes after the cells of a chain: pointer 0; a further pointer, where the limit is reached; a pointer above N
 pub data After : Type 0 where
-  ends goesOn broken : After
+  ends goes_on broken : After
 
 pub record Chain : Type 0 where
   pub cells : List ℕ
@@ -21,7 +21,7 @@ chained l a = record { cells = l; after = a }
 -- is followed only where the limit is not reached, so a pointer past the limit is not looked at (10 before 15). The rules that only
 -- look take the versions as a function f of the cell.
 unfoldable pub chain : ℕ → (ℕ → Version) → ℕ → ℕ → Chain
-chain n f zero c = cond (eqb c 0) (chained [] ends) (chained [] goesOn)
+chain n f zero c = cond (eqb c 0) (chained [] ends) (chained [] goes_on)
 chain n f (suc most) c =
     cond (eqb c 0) (chained [] ends)
     (cond (ltb n c) (chained [] broken)
@@ -35,7 +35,7 @@ pub data Look : Type 0 where
 abbrev pub look_of : Option ℕ → After → Look
 look_of (some c) a = found c
 look_of none ends = nothing
-look_of none goesOn = too_long
+look_of none goes_on = too_long
 look_of none broken = harmed
 
 -- "the first visible version from the head (000, `first_visible`)", among the first `limit`

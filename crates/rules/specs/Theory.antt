@@ -2,7 +2,6 @@
 -- meant to be cited but the laws of cells and of cases.
 
 -- stores and what is read back
-pub mod Cases
 pub mod SlotLaws
 pub mod CellLaws
 pub mod Shape
@@ -21,7 +20,6 @@ pub mod CommitView
 pub mod Cells
 pub mod Writes
 pub mod Revalue
-pub mod VacuumView
 pub mod Locks
 -- chains and reads
 pub mod Chains
@@ -31,28 +29,7 @@ pub mod Recording
 pub mod Guard
 pub mod Same
 pub mod Good
-pub mod BeginCall
-pub mod CommitCall
-pub mod AbortCall
-pub mod WriteCall
-pub mod ReadCall
-pub mod LookupCall
-pub mod VacuumCall
 pub mod CreateCall
 pub mod Steps
 -- what follows
-pub mod Never
-pub mod ReadLaw
-pub mod OnePlace
-pub mod Facts
-pub mod CommitRefused
-pub mod Validated
-pub mod Replaced
-pub mod VacuumLaw
 pub mod LookupLaw
-pub mod NeverFull
-pub mod Clock
-pub mod Continuing
-pub mod RecordsStay
-pub mod Later
-pub mod Extending

@@ -8,7 +8,7 @@ use Rattle.rules.specs.Numbers.{result_full, damaged}
 use Rattle.words.specs.Lists.{keep, fold}
 use Rattle.kinds.specs.Versions.{with_next, value_of, version_at, put_version, reclaimable}
 use Rattle.rules.specs.Memory.{Mem, size_n, head_at, with_cells}
-use Rattle.rules.specs.Chain.{After, ends, goesOn, broken, chain}
+use Rattle.rules.specs.Chain.{After, ends, goes_on, broken, chain}
 use Rattle.rules.specs.Snapshot.{horizon}
 use Rattle.rules.specs.Outcome.{Outcome, out, test, guard, refuse, store_tests, row_test}
 use Rattle.rules.specs.Abort.{give_back}
@@ -39,7 +39,7 @@ module _ {z : Sizes} where
 
   -- "The answer is their count and the live head's value, or 0 and no value where the head is 0." 15: a link above N, or "a vacuum walk past N versions"
   unfoldable pub vacuum_now : Mem z → ℕ → ℕ → List ℕ → After → Outcome z Answer (List ℕ)
-  vacuum_now m hz room l goesOn = refuse m damaged 0
+  vacuum_now m hz room l goes_on = refuse m damaged 0
   vacuum_now m hz room l broken = refuse m damaged 0
   vacuum_now m hz room [] ends = out (Vacuumed 0 None) [] m
   vacuum_now m hz room (h ∷ l) ends = swept m hz room h l

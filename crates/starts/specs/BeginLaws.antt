@@ -9,7 +9,7 @@ use Rattle.kinds.specs.Versions.{tx}
 use Rattle.rules.specs.Memory.{Mem, mem, clock}
 use Rattle.rules.specs.Snapshot.{vacant}
 use Rattle.rules.specs.Outcome.{Outcome, out, test, guard, refuse, store_tests}
-use Rattle.rules.specs.Verdicts.{guard_append}
+use Rattle.rules.proofs.Verdicts.{guard_append}
 use Rattle.rules.specs.Begin.{ids_with, begin_words, begun, begin_out}
 use Rattle.opens.specs.OpenedAt.{ids_at, opened_at}
 

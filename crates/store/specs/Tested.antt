@@ -7,7 +7,8 @@ use Rattle.words.specs.Sizes.{Sizes}
 use Rattle.rules.specs.Memory.{Mem}
 use Rattle.kinds.specs.declared.Verdict.{Verdict}
 use Rattle.rules.specs.Outcome.{Outcome, out, refuse, Test, guard}
-use Rattle.rules.specs.Verdicts.{verdict, guard_fine, guard_refused}
+use Rattle.rules.specs.Verdicts.{verdict}
+use Rattle.rules.proofs.Verdicts.{guard_fine, guard_refused}
 
 -- o is the call; `rest` what is left of it once the tests are fine
 module _ {A : Type 0} (r : ℕ → ℕ → A) (l : List Test) (o rest : A) (split : o ≡ guard r l rest) where

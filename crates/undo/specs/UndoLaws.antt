@@ -13,8 +13,8 @@ use Rattle.words.specs.WordLaws.{threes_step, threes_done}
 use Rattle.rules.specs.Abort.{unlock_base, news, give_back, abort_tests}
 use Rattle.rules.specs.Theory.Bridge.{BasesIn, AllCells}
 use Rattle.rules.specs.Theory.CellLaws.{HasCell}
-use Rattle.rules.specs.Theory.AbortCall.{abort_entries_in}
-use Rattle.rules.specs.TestLaws.{fine_passed}
+use Rattle.rules.proofs.Theory.AbortCall.{abort_entries_in}
+use Rattle.rules.proofs.TestLaws.{fine_passed}
 
 -- the two arenas that an abort looks at
 abbrev pub lent : List ℕ → List (List ℕ) → Mem base

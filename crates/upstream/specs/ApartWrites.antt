@@ -11,17 +11,19 @@ use Rattle.rules.specs.Lookup.{own_rows}
 use Rattle.rules.specs.History.{Log, who_in, cells_in}
 use Rattle.rules.specs.Reachable.{Reachable, chain_at, times, LockedFor}
 use Rattle.rules.specs.Exactly.{In}
-use Rattle.rules.specs.Members.{in_all}
+use Rattle.rules.proofs.Members.{in_all}
 use Rattle.rules.specs.Published.{From, Apart}
-use Rattle.rules.specs.Theory.Cases.{by_eq}
-use Rattle.rules.specs.Theory.View.{view_of, empty_slot, get_slots}
+use Rattle.rules.proofs.Theory.Cases.{by_eq}
+use Rattle.rules.specs.Theory.View.{view_of, empty_slot}
+use Rattle.rules.proofs.Theory.View.{get_slots}
 use Rattle.rules.specs.Theory.Effects.{slot_v}
-use Rattle.rules.specs.Theory.Counting.{cnt, sum_at}
+use Rattle.rules.specs.Theory.Counting.{cnt}
+use Rattle.rules.proofs.Theory.Counting.{sum_at}
 use Rattle.rules.specs.Theory.Inv.{in_slot}
-use Rattle.rules.specs.Theory.Places.{inb_le}
-use Rattle.rules.specs.Theory.OnePlace.{times_is}
-use Rattle.rules.specs.Theory.ReadLaw.{reachable_sound}
-use Rattle.rules.specs.Demand3.{one_entry_a_row, base_is_head_and_locked}
+use Rattle.rules.proofs.Theory.Places.{inb_le}
+use Rattle.rules.proofs.Theory.OnePlace.{times_is}
+use Rattle.rules.proofs.Theory.ReadLaw.{reachable_sound}
+use Rattle.rules.proofs.Demand3.{one_entry_a_row, base_is_head_and_locked}
 use Rattle.upstream.specs.Safe.{in_times, all_at}
 use Rattle.upstream.specs.PreparedWrites.{new_in, owns, entry_carries_its_writer, new_is_a_cell, new_is_unchained, head_in_chain}
 use Rattle.upstream.specs.SharedTails.{no_tail_is_shared}

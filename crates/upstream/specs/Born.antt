@@ -9,13 +9,16 @@ use Rattle.words.specs.Lists.{fold}
 use Rattle.kinds.specs.Versions.{with_xmax, with_lock, empty_version}
 use Rattle.words.specs.Slots.{Slot, Write}
 use Rattle.rules.specs.Reachable.{All}
-use Rattle.rules.specs.Theory.Cases.{by_eq}
-use Rattle.rules.specs.Theory.View.{View, upd, upd_same, upd_other}
+use Rattle.rules.proofs.Theory.Cases.{by_eq}
+use Rattle.rules.specs.Theory.View.{View, upd}
+use Rattle.rules.proofs.Theory.View.{upd_same, upd_other}
 use Rattle.rules.specs.Theory.Effects.{slot_v, publish_v, publish_all_v, give_v, give_all_v, mark_v}
-use Rattle.rules.specs.Theory.Counting.{cnt, cnt_head, cnt_tail, cnt_other}
+use Rattle.rules.specs.Theory.Counting.{cnt}
+use Rattle.rules.proofs.Theory.Counting.{cnt_head, cnt_tail, cnt_other}
 use Rattle.rules.specs.Theory.Inv.{nexts, Spelled, in_slot, Inv, Ghost, Hist}
-use Rattle.rules.specs.Theory.Places.{chain_cell, spelled_first}
-use Rattle.rules.specs.Theory.Publish.{part_off, part_on, part_same, of_next}
+use Rattle.rules.proofs.Theory.Places.{chain_cell, spelled_first}
+use Rattle.rules.specs.Theory.Publish.{of_next}
+use Rattle.rules.proofs.Theory.Publish.{part_off, part_on, part_same}
 
 abbrev pub min_of : View → ℕ → ℕ
 min_of st c = (st.vers c).xmin.0

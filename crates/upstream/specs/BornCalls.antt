@@ -30,33 +30,40 @@ use Rattle.rules.specs.Vacuum.{vacuum_out, vacuum_now, swept, relink}
 use Rattle.kinds.specs.Versions.{reclaimable}
 use Rattle.rules.specs.Lookup.{Found, stopped, got, lookup_end, lookup_out, lookup_all_out, candidate_tests}
 use Rattle.rules.specs.Reachable.{All}
-use Rattle.rules.specs.Terms.{is_fitting, Fitting}
-use Rattle.rules.specs.CreateFresh.{created_sizes_and_clock, created_heads_are_0, created_cells_are_cleared, created_slots_are_empty}
-use Rattle.rules.specs.Theory.Cases.{by_eq, by_bool}
-use Rattle.rules.specs.Theory.SlotLaws.{new_slot, with_recs, with_write, slot_emptied}
+use Rattle.rules.specs.Terms.{Fitting}
+use Rattle.rules.proofs.Terms.{is_fitting}
+use Rattle.rules.proofs.CreateFresh.{created_sizes_and_clock, created_heads_are_0, created_cells_are_cleared, created_slots_are_empty}
+use Rattle.rules.proofs.Theory.Cases.{by_eq, by_bool}
+use Rattle.rules.specs.Theory.SlotLaws.{new_slot, with_recs, with_write}
+use Rattle.rules.proofs.Theory.SlotLaws.{slot_emptied}
 use Rattle.rules.specs.Theory.CellLaws.{HasCell}
-use Rattle.rules.specs.Theory.View.{View, view_of, empty_slot, get_slots, slots_of, upd}
+use Rattle.rules.specs.Theory.View.{View, view_of, empty_slot, slots_of, upd}
+use Rattle.rules.proofs.Theory.View.{get_slots}
 use Rattle.rules.specs.Theory.Effects.{slot_v, put_slot, with_vers, begin_v, born_v, ids_v, prepare_v, publish_all_v, publish_v, give_all_v, lock_v, unlock_v, relink_v}
-use Rattle.rules.specs.Theory.Bridge.{view_begin, view_recs, view_prepared, view_replaced, view_close, view_publish_all, view_give_all, unlock_vers, relink_vers, all_cells}
-use Rattle.rules.specs.Theory.Counting.{cnt, cnt_append, cnt_same, cnt_other, cnt_head, cnt_tail, sum_at}
+use Rattle.rules.proofs.Theory.Bridge.{view_begin, view_recs, view_prepared, view_replaced, view_close, view_publish_all, view_give_all, unlock_vers, relink_vers, all_cells}
+use Rattle.rules.specs.Theory.Counting.{cnt}
+use Rattle.rules.proofs.Theory.Counting.{cnt_append, cnt_same, cnt_other, cnt_head, cnt_tail, sum_at}
 use Rattle.rules.specs.Theory.Inv.{Hist, Inv, Ver, Spelled, nexts, in_slot, vers, ver_of, Entries, own_find}
-use Rattle.rules.specs.Theory.Places.{spelled_first, inb_le, own_cell, chain_cell}
-use Rattle.rules.specs.Theory.SlotSteps.{open_in, ids_differ}
-use Rattle.rules.specs.Theory.Publish.{part_off, part_on, part_same, of_next}
-use Rattle.rules.specs.Theory.CommitView.{Tested, no_entry}
-use Rattle.rules.specs.Theory.Cells.{lock_part, unlock_part}
-use Rattle.rules.specs.Theory.VacuumView.{cnt_keep, relink_part, relink_off}
+use Rattle.rules.proofs.Theory.Places.{spelled_first, inb_le, own_cell, chain_cell}
+use Rattle.rules.proofs.Theory.SlotSteps.{open_in, ids_differ}
+use Rattle.rules.specs.Theory.Publish.{of_next}
+use Rattle.rules.proofs.Theory.Publish.{part_off, part_on, part_same}
+use Rattle.rules.specs.Theory.CommitView.{Tested}
+use Rattle.rules.proofs.Theory.CommitView.{no_entry}
+use Rattle.rules.proofs.Theory.Cells.{lock_part, unlock_part}
+use Rattle.rules.proofs.Theory.VacuumView.{cnt_keep, relink_part, relink_off}
 use Rattle.rules.specs.Theory.Recording.{Rightly, Noted}
-use Rattle.rules.specs.Theory.Guard.{guard_case, passed_split}
-use Rattle.rules.specs.Theory.Same.{same_relink}
-use Rattle.rules.specs.Theory.Good.{Good, Owner, owner, view_open, view_id, slot_id, cell_in}
-use Rattle.rules.specs.Theory.BeginCall.{slots_length}
-use Rattle.rules.specs.Theory.ReadCall.{recs_count, noted_at}
-use Rattle.rules.specs.Theory.LookupCall.{Fine, found_fine, rows_below, all_rows_below}
-use Rattle.rules.specs.Theory.CommitCall.{commit_facts}
-use Rattle.rules.specs.Theory.AbortCall.{abort_entries_in}
-use Rattle.rules.specs.Theory.VacuumCall.{cells_of}
-use Rattle.rules.specs.Theory.VacuumCall.{row_chain_lem, swept_rows, horizon_under}
+use Rattle.rules.proofs.Theory.Guard.{guard_case, passed_split}
+use Rattle.rules.proofs.Theory.Same.{same_relink}
+use Rattle.rules.specs.Theory.Good.{Owner}
+use Rattle.rules.proofs.Theory.Good.{Good, owner, view_open, view_id, slot_id, cell_in}
+use Rattle.rules.proofs.Theory.BeginCall.{slots_length}
+use Rattle.rules.proofs.Theory.ReadCall.{recs_count, noted_at}
+use Rattle.rules.proofs.Theory.LookupCall.{Fine, found_fine, rows_below, all_rows_below}
+use Rattle.rules.proofs.Theory.CommitCall.{commit_facts}
+use Rattle.rules.proofs.Theory.AbortCall.{abort_entries_in}
+use Rattle.rules.proofs.Theory.VacuumCall.{cells_of}
+use Rattle.rules.proofs.Theory.VacuumCall.{row_chain_lem, swept_rows, horizon_under}
 use Rattle.upstream.specs.Born.{On, Born, Lows, min_of, of_min, Ready, Distinct, frame, on_row, row_on, on_unslot, on_unfree, on_listed, listed_on, give_gone, give_stays, give_rest, publish_all_born, head, next}
 
 -- a slot stored: it keeps its id and its writes, or is empty

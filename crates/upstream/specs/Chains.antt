@@ -6,10 +6,11 @@ use Rattle.std.proofs.Common.{sym, ap, ◌∙◌, subst, arith}
 use Rattle.std.proofs.Math.Logic.{inl, inr}
 use Rattle.kinds.specs.declared.Version.{Version}
 use Rattle.words.specs.Lists.{first}
-use Rattle.rules.specs.Theory.Cases.{by_bool, no_both}
-use Rattle.rules.specs.Exactly.{In, All, all_map}
+use Rattle.rules.proofs.Theory.Cases.{by_bool, no_both}
+use Rattle.rules.specs.Exactly.{In, All}
+use Rattle.rules.proofs.Exactly.{all_map}
 use Rattle.rules.specs.Along.{Along}
-use Rattle.rules.specs.Members.{all_in, in_all, picks_in}
+use Rattle.rules.proofs.Members.{all_in, in_all, picks_in}
 use Rattle.rules.specs.VacuumRefuses.{Picks}
 use Rattle.upstream.specs.Images.{Image, Snapshot}
 use Rattle.upstream.specs.Seen.{visible, first_visible}

@@ -1,8 +1,8 @@
 -- The clock, in upstream's terms: begin is a `reservation` of the clock itself, looking is an `observation`, and no store that our calls
 -- made has a clock past 2^64 - 1.
-use Rattle.std.specs.Prelude.{ℕ, ◌<◌, ◌≤◌, ◌+◌, suc, not, ◌≢◌, refl}
+use Rattle.std.specs.Prelude.{ℕ, ◌≤◌, not, refl}
 use mathlib.Core.List.{List, [], ◌∷◌}
-use Rattle.std.proofs.Common.{⊎_elim, ap, sym, ◌∙◌, subst, arith}
+use Rattle.std.proofs.Common.{⊎_elim, ap, subst, arith}
 use Rattle.std.proofs.Math.Path.{◌≡◌}
 use Rattle.std.proofs.lemmas.Bool.{not-false}
 use Rattle.kinds.specs.declared.Answer.{Answer}
@@ -11,18 +11,18 @@ use Rattle.words.specs.Sizes.{Sizes, Roomy, last_id}
 use Rattle.rules.specs.Numbers.{bad_size}
 use Rattle.rules.specs.Memory.{Mem, clock}
 use Rattle.rules.specs.Outcome.{Outcome, refuse, test, fits}
-use Rattle.rules.specs.Create.{created, create_out}
+use Rattle.rules.specs.Create.{create_out}
 use Rattle.rules.specs.Begin.{begin_out}
 use Rattle.rules.specs.Run.{Call, create, begin, read, write, commit, abort, vacuum, lookup, lookup_all, step, run}
 use Rattle.rules.specs.History.{Log}
 use Rattle.rules.specs.Reachable.{Reachable}
 use Rattle.rules.specs.Exactly.{NoneOf}
-use Rattle.rules.specs.Terms.{is_fitting}
-use Rattle.rules.specs.CreateRefuses.{begin_lines, begin_refuses_exactly}
-use Rattle.rules.specs.CreateFresh.{created_sizes_and_clock}
-use Rattle.rules.specs.BeginTakes.{begin_advances_the_clock}
-use Rattle.rules.specs.Theory.Guard.{guard_case}
-use Rattle.rules.specs.Theory.Clock.{read_clock, write_clock, commit_clock, abort_clock, vacuum_clock, lookup_clock, lookup_all_clock}
+use Rattle.rules.proofs.Terms.{is_fitting}
+use Rattle.rules.proofs.CreateRefuses.{begin_lines, begin_refuses_exactly}
+use Rattle.rules.proofs.CreateFresh.{created_sizes_and_clock}
+use Rattle.rules.proofs.BeginTakes.{begin_advances_the_clock}
+use Rattle.rules.proofs.Theory.Guard.{guard_case}
+use Rattle.rules.proofs.Theory.Clock.{read_clock, write_clock, commit_clock, abort_clock, vacuum_clock, lookup_clock, lookup_all_clock}
 use Rattle.upstream.specs.LifecycleTerms.{Observation, Reservation}
 use Rattle.upstream.specs.Lifecycle.{reachable_state_is_well_formed}
 

@@ -25,7 +25,7 @@ use Rattle.rules.specs.Commit.{mark_base, commit_tests, publish, commit_out}
 use Rattle.rules.specs.Run.{Call, begin, write, commit, read, Reply, gave, looked, run, step}
 use Rattle.rules.specs.History.{Log, log_of, made, logged, commits, writes_in, who_in, rows_in}
 use Rattle.rules.specs.Reachable.{Reachable}
-use Rattle.rules.specs.Demand3.{base_is_roomy}
+use Rattle.rules.proofs.Demand3.{base_is_roomy}
 use Rattle.upstream.specs.Images.{ImageValid, image_of}
 use Rattle.upstream.specs.Transactions.{TransactionValid}
 use Rattle.upstream.specs.LifecycleTerms.{WellFormed}

@@ -22,18 +22,19 @@ use Rattle.rules.specs.History.{Log, rows_in, cells_in}
 use Rattle.rules.specs.Reachable.{Reachable, chain_at, free_at, times}
 use Rattle.rules.specs.Exactly.{NoneOf}
 use Rattle.rules.specs.Terms.{NoEntry}
-use Rattle.rules.specs.WriteRefuses.{write_lines}
-use Rattle.rules.specs.WritePrepares.{write_keeps_other_cells, write_locks_the_base}
-use Rattle.rules.specs.HandedOut.{write_takes_the_first_free}
+use Rattle.rules.proofs.WriteRefuses.{write_lines}
+use Rattle.rules.proofs.WritePrepares.{write_keeps_other_cells, write_locks_the_base}
+use Rattle.rules.proofs.HandedOut.{write_takes_the_first_free}
 use Rattle.rules.specs.Theory.Counting.{cnt}
-use Rattle.rules.specs.Theory.Guard.{guard_case}
-use Rattle.rules.specs.Theory.Same.{slots_publish_all, slots_give_all}
-use Rattle.rules.specs.Theory.Places.{spelled_first, free_alone, chain_cell}
+use Rattle.rules.proofs.Theory.Guard.{guard_case}
+use Rattle.rules.proofs.Theory.Same.{slots_publish_all, slots_give_all}
+use Rattle.rules.proofs.Theory.Places.{spelled_first, free_alone, chain_cell}
 use Rattle.rules.specs.Theory.View.{view_of}
-use Rattle.rules.specs.Theory.OnePlace.{times_is, free_chain}
-use Rattle.rules.specs.Theory.Facts.{at_row}
-use Rattle.rules.specs.Theory.Steps.{Sound, hist_of}
-use Rattle.rules.specs.Theory.ReadLaw.{reachable_sound}
+use Rattle.rules.proofs.Theory.OnePlace.{times_is, free_chain}
+use Rattle.rules.proofs.Theory.Facts.{at_row}
+use Rattle.rules.specs.Theory.Steps.{hist_of}
+use Rattle.rules.proofs.Theory.Steps.{Sound}
+use Rattle.rules.proofs.Theory.ReadLaw.{reachable_sound}
 use Rattle.upstream.specs.Images.{ImageValid, image_of, stored, Points}
 use Rattle.upstream.specs.Standing.{reachable_image_is_valid}
 

@@ -6,7 +6,7 @@ use Rattle.words.specs.Sizes.{Sizes, ID, LOW}
 use Rattle.words.specs.Lists.{least}
 use Rattle.rules.specs.Memory.{Mem, clock}
 use Rattle.rules.specs.Snapshot.{occupied, horizon_of, horizon}
-use Rattle.rules.specs.Horizon.{least_at_most, least_at_most_each, occupied_exactly}
+use Rattle.rules.proofs.Horizon.{least_at_most, least_at_most_each, occupied_exactly}
 use Rattle.upstream.specs.LifecycleTerms.{minimum_retention}
 use Rattle.upstream.specs.Lifecycle.{minimum_retention_is_least}
 

@@ -12,22 +12,24 @@ use Rattle.words.specs.Lists.{least, greatest}
 use Rattle.words.specs.Slots.{slot_of}
 use Rattle.rules.specs.Memory.{Mem, size_n, clock, words_at, slot_at}
 use Rattle.rules.specs.Snapshot.{occupied, snap_low, snap_top, horizon_of, horizon}
-use Rattle.rules.specs.Horizon.{least_at_most}
+use Rattle.rules.proofs.Horizon.{least_at_most}
 use Rattle.rules.specs.Begin.{ids_with, begin_words, begun}
 use Rattle.rules.specs.Outcome.{Outcome, refuse, slot_tests, each}
 use Rattle.rules.specs.Abort.{abort_out, abort_tests}
 use Rattle.rules.specs.History.{Log, who_in, rows_in, cells_in}
 use Rattle.rules.specs.Reachable.{Reachable}
-use Rattle.rules.specs.Demand3.{id_is_below_the_clock, id_is_in_one_slot, slot_has_the_open_id}
-use Rattle.rules.specs.Theory.Cases.{by_eq, by_bool}
-use Rattle.rules.specs.Theory.SlotLaws.{new_slot, slot_opened}
-use Rattle.rules.specs.Theory.Bridge.{few_ids}
-use Rattle.rules.specs.Theory.SlotSteps.{top_is}
-use Rattle.rules.specs.Theory.Inv.{all_map}
-use Rattle.rules.specs.Theory.Guard.{guard_passed, passed_join, passed_each}
-use Rattle.rules.specs.Theory.Never.{open_slot, slot_passed, all_entered}
-use Rattle.rules.specs.Theory.Steps.{Sound, hist_of}
-use Rattle.rules.specs.Theory.ReadLaw.{reachable_sound}
+use Rattle.rules.proofs.Demand3.{id_is_below_the_clock, id_is_in_one_slot, slot_has_the_open_id}
+use Rattle.rules.proofs.Theory.Cases.{by_eq, by_bool}
+use Rattle.rules.specs.Theory.SlotLaws.{new_slot}
+use Rattle.rules.proofs.Theory.SlotLaws.{slot_opened}
+use Rattle.rules.proofs.Theory.Bridge.{few_ids}
+use Rattle.rules.proofs.Theory.SlotSteps.{top_is}
+use Rattle.rules.proofs.Theory.Inv.{all_map}
+use Rattle.rules.proofs.Theory.Guard.{guard_passed, passed_join, passed_each}
+use Rattle.rules.proofs.Theory.Never.{open_slot, slot_passed, all_entered}
+use Rattle.rules.specs.Theory.Steps.{hist_of}
+use Rattle.rules.proofs.Theory.Steps.{Sound}
+use Rattle.rules.proofs.Theory.ReadLaw.{reachable_sound}
 use Rattle.upstream.specs.LifecycleTerms.{id_of, low_of, lowered, raised, active, minimum_active, maximum_active, minimum_retention, top_of, Coherent, WellFormed}
 use Rattle.upstream.specs.Standing.{open_snapshot_is_well_formed, empty_slot_has_xmin_0}
 

@@ -6,7 +6,7 @@ use Rattle.std.proofs.Math.Option.{Option, none, some}
 use Rattle.std.proofs.Common.{arith}
 use Rattle.kinds.specs.Versions.{locked_by_other}
 use Rattle.words.specs.Slots.{Slot}
-use Rattle.rules.specs.Theory.Cases.{by_bool}
+use Rattle.rules.proofs.Theory.Cases.{by_bool}
 use Rattle.upstream.specs.Images.{Image}
 use Rattle.upstream.specs.Transactions.{value_at, value_of}
 

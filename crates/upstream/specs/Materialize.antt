@@ -18,17 +18,21 @@ use Rattle.rules.specs.Run.{lookup, lookup_all, run, step}
 use Rattle.rules.specs.History.{Log, log_of, logged, Val, who_in, rows_in, cells_in, own_in, value_in, key_answer, answer_of}
 use Rattle.rules.specs.Reachable.{Reachable, All}
 use Rattle.rules.specs.Listing.{Comes, its_list, its_trouble, rows_of, hit, is_none}
-use Rattle.rules.specs.Demand3 as demand
-use Rattle.rules.specs.Theory.Cases.{by_eq, by_bool, and_true, no_both}
-use Rattle.rules.specs.Theory.SlotLaws.{with_recs, slot_recs, recs_length}
-use Rattle.rules.specs.Theory.View.{view_of, get_slots}
+use Rattle.rules.proofs.Demand3 as demand
+use Rattle.rules.proofs.Theory.Cases.{by_eq, by_bool, and_true, no_both}
+use Rattle.rules.specs.Theory.SlotLaws.{with_recs}
+use Rattle.rules.proofs.Theory.SlotLaws.{slot_recs, recs_length}
+use Rattle.rules.specs.Theory.View.{view_of}
+use Rattle.rules.proofs.Theory.View.{get_slots}
 use Rattle.rules.specs.Theory.Effects.{slot_v}
-use Rattle.rules.specs.Theory.Inv.{all_map}
-use Rattle.rules.specs.Theory.Guard.{guard_case, passed_split}
-use Rattle.rules.specs.Theory.Good.{Owner, owner}
-use Rattle.rules.specs.Theory.LookupCall.{Fine, found_fine, rows_below, all_rows_below}
-use Rattle.rules.specs.Theory.Steps.{Sound, hist_of}
-use Rattle.rules.specs.Theory.ReadLaw.{reachable_sound}
+use Rattle.rules.proofs.Theory.Inv.{all_map}
+use Rattle.rules.proofs.Theory.Guard.{guard_case, passed_split}
+use Rattle.rules.specs.Theory.Good.{Owner}
+use Rattle.rules.proofs.Theory.Good.{owner}
+use Rattle.rules.proofs.Theory.LookupCall.{Fine, found_fine, rows_below, all_rows_below}
+use Rattle.rules.specs.Theory.Steps.{hist_of}
+use Rattle.rules.proofs.Theory.Steps.{Sound}
+use Rattle.rules.proofs.Theory.ReadLaw.{reachable_sound}
 use Rattle.upstream.specs.Images.{Image, image_of, snapshot}
 use Rattle.upstream.specs.Seen.{first_visible}
 use Rattle.upstream.specs.ReadTerms.{ViewSame, Extends, Observed, equals_key, MatchesRow}

@@ -15,13 +15,15 @@ use Rattle.words.specs.Slots.{Slot}
 use Rattle.rules.specs.Memory.{Mem, size_n, head_at, slot_at}
 use Rattle.rules.specs.Outcome.{Outcome}
 use Rattle.rules.specs.Commit.{commit_out}
-use Rattle.rules.specs.Theory.Cases.{or_true}
-use Rattle.rules.specs.Exactly.{In, NoneOf, holds_true, fails_false, is_in}
-use Rattle.rules.specs.Terms.{CellOf, is_cell_lem, CreatorSeen, Sees, is_seen}
-use Rattle.rules.specs.Members.{all_in}
-use Rattle.rules.specs.CommitRefuses.{commit_lines, commit_refuses_exactly}
+use Rattle.rules.proofs.Theory.Cases.{or_true}
+use Rattle.rules.specs.Exactly.{In, NoneOf}
+use Rattle.rules.proofs.Exactly.{holds_true, fails_false, is_in}
+use Rattle.rules.specs.Terms.{CellOf, CreatorSeen, Sees}
+use Rattle.rules.proofs.Terms.{is_cell_lem, is_seen}
+use Rattle.rules.proofs.Members.{all_in}
+use Rattle.rules.proofs.CommitRefuses.{commit_lines, commit_refuses_exactly}
 use Rattle.rules.specs.Published.{Apart}
-use Rattle.rules.specs.CommitPublishes.{commit_moves_each_head, commit_marks_each_base, commit_links_each_new, commit_keeps_other_cells, commit_keeps_the_clock}
+use Rattle.rules.proofs.CommitPublishes.{commit_moves_each_head, commit_marks_each_base, commit_links_each_new, commit_keeps_other_cells, commit_keeps_the_clock}
 use Rattle.upstream.specs.Images.{Image, image_of, stored, Snapshot, snapshot}
 use Rattle.upstream.specs.Seen.{creator_visible, visible, along}
 use Rattle.upstream.specs.Transactions.{value_of, key_at, stored_snapshot_key}

@@ -13,17 +13,18 @@ use Rattle.rules.specs.Memory.{size_n, words_at, slot_at, with_slot}
 use Rattle.kinds.specs.Visible.{conflict}
 use Rattle.rules.specs.Outcome.{out}
 use Rattle.rules.specs.Read.{read_out}
-use Rattle.rules.specs.Exactly.{In, NoneOf, in_answer, in_read, accepted_none, not_refused}
-use Rattle.rules.specs.CommitRefuses.{commit_lines}
-use Rattle.rules.specs.CommitAllOrNothing.{commit_accepted_when}
-use Rattle.rules.specs.CommitRefusedWhen.{commit_refused_9_names_first_conflicting_record}
+use Rattle.rules.specs.Exactly.{In, NoneOf}
+use Rattle.rules.proofs.Exactly.{in_answer, in_read, accepted_none, not_refused}
+use Rattle.rules.proofs.CommitRefuses.{commit_lines}
+use Rattle.rules.proofs.CommitAllOrNothing.{commit_accepted_when}
+use Rattle.rules.proofs.CommitRefusedWhen.{commit_refused_9_names_first_conflicting_record}
 use Rattle.rules.specs.HandedOut.{FreeList}
 use Rattle.rules.specs.Commit.{commit_out}
 use Rattle.rules.specs.Vacuum.{vacuum_out}
 use Rattle.rules.specs.Snapshot.{horizon}
-use Rattle.rules.specs.VacuumRefuses.{vacuum_lines, vacuum_refuses_exactly}
-use Rattle.rules.specs.WriteRefuses.{write_lines, write_refuses_exactly}
-use Rattle.rules.specs.ReadRefuses.{read_lines, read_refuses_exactly}
+use Rattle.rules.proofs.VacuumRefuses.{vacuum_lines, vacuum_refuses_exactly}
+use Rattle.rules.proofs.WriteRefuses.{write_lines, write_refuses_exactly}
+use Rattle.rules.proofs.ReadRefuses.{read_lines, read_refuses_exactly}
 use Rattle.upstream.specs.Images.{image_of, snapshot}
 use Rattle.upstream.specs.Protected.{sees01}
 use Rattle.upstream.specs.Story.{OldReader, published, pruned, Agree, AgreeButTail}

@@ -24,7 +24,7 @@ use Rattle.kinds.specs.Versions.{reclaimable}
 use Rattle.rules.specs.Run.{Reply, run, step}
 use Rattle.rules.specs.History.{Log, log_of, made, logged, commits, writes_in, who_in, rows_in}
 use Rattle.rules.specs.Reachable.{Reachable}
-use Rattle.rules.specs.Demand3.{base_is_roomy}
+use Rattle.rules.proofs.Demand3.{base_is_roomy}
 use Rattle.rules.specs.Exactly.{In}
 use Rattle.upstream.specs.Images.{image_of, snapshot}
 use Rattle.upstream.specs.Publication.{Prepared}

@@ -17,27 +17,30 @@ use Rattle.rules.specs.Read.{answer_at, read_out}
 use Rattle.rules.specs.Write.{write_out}
 use Rattle.rules.specs.Commit.{commit_out}
 use Rattle.rules.specs.Vacuum.{vacuum_out}
-use Rattle.rules.specs.Theory.Cases.{by_eq}
-use Rattle.rules.specs.Exactly.{In, NoneOf, holds_true}
-use Rattle.rules.specs.Terms.{CellOf, is_conflicting, NoEntry}
+use Rattle.rules.proofs.Theory.Cases.{by_eq}
+use Rattle.rules.specs.Exactly.{In, NoneOf}
+use Rattle.rules.proofs.Exactly.{holds_true}
+use Rattle.rules.specs.Terms.{CellOf, NoEntry}
+use Rattle.rules.proofs.Terms.{is_conflicting}
 use Rattle.rules.specs.Along.{Way}
-use Rattle.rules.specs.Members.{all_in}
-use Rattle.rules.specs.ChainOnce.{along_one}
+use Rattle.rules.proofs.Members.{all_in}
+use Rattle.rules.proofs.ChainOnce.{along_one}
 use Rattle.rules.specs.HandedOut.{FreeList}
-use Rattle.rules.specs.VacuumRefuses.{Reclaimable, WholeChain, DeadOf, vacuum_lines, ended_chain, vacuum_refuses_exactly}
-use Rattle.rules.specs.OneOutcome.{KeptOf, vacuum_walks, read_meets}
-use Rattle.rules.specs.ReadRefuses.{newly, read_lines}
-use Rattle.rules.specs.ReadAnswers.{a_key, is_answer}
-use Rattle.rules.specs.WriteRefuses.{write_lines}
-use Rattle.rules.specs.WritePrepares.{write_prepares_the_cell, write_locks_the_base, write_keeps_other_cells, write_moves_no_head}
-use Rattle.rules.specs.CommitRefusedWhen.{Validating, commit_refused_9_names_first_conflicting_record}
+use Rattle.rules.specs.VacuumRefuses.{Reclaimable}
+use Rattle.rules.proofs.VacuumRefuses.{WholeChain, DeadOf, vacuum_lines, ended_chain, vacuum_refuses_exactly}
+use Rattle.rules.proofs.OneOutcome.{KeptOf, vacuum_walks, read_meets}
+use Rattle.rules.proofs.ReadRefuses.{newly, read_lines}
+use Rattle.rules.proofs.ReadAnswers.{a_key, is_answer}
+use Rattle.rules.proofs.WriteRefuses.{write_lines}
+use Rattle.rules.proofs.WritePrepares.{write_prepares_the_cell, write_locks_the_base, write_keeps_other_cells, write_moves_no_head}
+use Rattle.rules.proofs.CommitRefusedWhen.{Validating, commit_refused_9_names_first_conflicting_record}
 use Rattle.upstream.specs.Images.{image_of, snapshot}
 use Rattle.upstream.specs.Transactions.{value_of}
 use Rattle.upstream.specs.RetentionTerms.{first_seen}
 use Rattle.upstream.specs.Vacuums.{vacuum_row_acquired_recycles, vacuum_row_acquired_counts_its_reports}
 use Rattle.upstream.specs.Story.{Layout, Distinct, OldReader, published, pruned, Agree, AgreeButTail}
 use Rattle.upstream.specs.Native.{Inside, seen_at_once, SeesTheBirth, ReadsTheAnchor, reads_the_anchor_behind_the_writer, published_tail, published_anchor, published_fresh, pruned_anchor, pruned_fresh, old_reader_sees_the_birth, old_reader_misses_the_writer}
-use Rattle.rules.specs.VacuumRemoves as W
+use Rattle.rules.proofs.VacuumRemoves as W
 
 -- ---- a memory that shows `pruned`, whatever its tail holds
 

@@ -14,19 +14,25 @@ use Rattle.rules.specs.Chain.{ends}
 use Rattle.rules.specs.Abort.{news}
 use Rattle.rules.specs.History.{Log, who_in, rows_in, cells_in}
 use Rattle.rules.specs.Reachable.{Reachable, chain_at, times, joined}
-use Rattle.rules.specs.Exactly.{In, holds_true}
-use Rattle.rules.specs.Terms.{CellOf, is_cell_lem}
-use Rattle.rules.specs.Along.{Along, ChainIs, chain_is, positive}
-use Rattle.rules.specs.Theory.Cases.{by_eq}
-use Rattle.rules.specs.Theory.View.{view_of, get_slots}
+use Rattle.rules.specs.Exactly.{In}
+use Rattle.rules.proofs.Exactly.{holds_true}
+use Rattle.rules.specs.Terms.{CellOf}
+use Rattle.rules.proofs.Terms.{is_cell_lem}
+use Rattle.rules.specs.Along.{Along}
+use Rattle.rules.proofs.Along.{ChainIs, chain_is, positive}
+use Rattle.rules.proofs.Theory.Cases.{by_eq}
+use Rattle.rules.specs.Theory.View.{view_of}
+use Rattle.rules.proofs.Theory.View.{get_slots}
 use Rattle.rules.specs.Theory.Effects.{slot_v}
 use Rattle.rules.specs.Theory.Inv.{Ver, ver_of, vers, Entries}
-use Rattle.rules.specs.Theory.Good.{Owner, view_open, view_id}
-use Rattle.rules.specs.Theory.Steps.{Sound, hist_of}
-use Rattle.rules.specs.Theory.Never.{open_slot, all_entered}
-use Rattle.rules.specs.Theory.ReadLaw.{reachable_sound}
-use Rattle.rules.specs.Members.{in_or_not, in_append}
-use Rattle.rules.specs.Demand3.{every_chain_ends, chained_cell_is_nowhere_else, sizes_are_the_creations, head_is_not_superseded, slot_has_the_open_id}
+use Rattle.rules.specs.Theory.Good.{Owner}
+use Rattle.rules.proofs.Theory.Good.{view_open, view_id}
+use Rattle.rules.specs.Theory.Steps.{hist_of}
+use Rattle.rules.proofs.Theory.Steps.{Sound}
+use Rattle.rules.proofs.Theory.Never.{open_slot, all_entered}
+use Rattle.rules.proofs.Theory.ReadLaw.{reachable_sound}
+use Rattle.rules.proofs.Members.{in_or_not, in_append}
+use Rattle.rules.proofs.Demand3.{every_chain_ends, chained_cell_is_nowhere_else, sizes_are_the_creations, head_is_not_superseded, slot_has_the_open_id}
 use Rattle.upstream.specs.Images.{image_of, stored, snapshot}
 use Rattle.upstream.specs.Standing.{reachable_image_is_valid, unchained_cell_links_to_nothing}
 use Rattle.upstream.specs.Publication.{Prepared}

@@ -7,10 +7,11 @@ use Rattle.kinds.specs.declared.Version.{Version}
 use Rattle.words.specs.Lists.{has}
 use Rattle.words.specs.Slots.{Slot}
 use Rattle.kinds.specs.Visible as Here
-use Rattle.rules.specs.Exactly.{In, is_in, fails_false}
-use Rattle.rules.specs.Terms.{is_seen}
-use Rattle.rules.specs.Members.{all_in}
-use Rattle.rules.specs.Theory.Cases.{and_false}
+use Rattle.rules.specs.Exactly.{In}
+use Rattle.rules.proofs.Exactly.{is_in, fails_false}
+use Rattle.rules.proofs.Terms.{is_seen}
+use Rattle.rules.proofs.Members.{all_in}
+use Rattle.rules.proofs.Theory.Cases.{and_false}
 use Rattle.upstream.specs.Images.{Snapshot, snapshot}
 use Rattle.upstream.specs.Seen.{visible}
 use Rattle.upstream.specs.RetentionTerms.{Eligible, DataSame, SnapshotWellFormed}

@@ -12,11 +12,11 @@ use Rattle.rules.specs.Memory.{Mem, slot_at}
 use Rattle.rules.specs.Outcome.{Outcome}
 use Rattle.rules.specs.Commit.{commit_out}
 use Rattle.rules.specs.Exactly.{In, NoneOf}
-use Rattle.rules.specs.Terms.{is_cell_lem}
-use Rattle.rules.specs.Theory.Cases.{by_eq}
-use Rattle.rules.specs.CommitRefuses.{commit_lines, commit_refuses_exactly}
+use Rattle.rules.proofs.Terms.{is_cell_lem}
+use Rattle.rules.proofs.Theory.Cases.{by_eq}
+use Rattle.rules.proofs.CommitRefuses.{commit_lines, commit_refuses_exactly}
 use Rattle.rules.specs.Published.{Apart}
-use Rattle.rules.specs.CommitPublishes.{commit_moves_each_head, commit_keeps_other_heads, commit_marks_each_base, commit_links_each_new, commit_keeps_other_cells, commit_keeps_the_clock}
+use Rattle.rules.proofs.CommitPublishes.{commit_moves_each_head, commit_keeps_other_heads, commit_marks_each_base, commit_links_each_new, commit_keeps_other_cells, commit_keeps_the_clock}
 use Rattle.upstream.specs.Images.{Image, image_of}
 use Rattle.upstream.specs.Publication.{publication_prefix, Same, SameButLock, AllowedPrefix}
 

@@ -15,12 +15,14 @@ use Rattle.rules.specs.Commit.{commit_out}
 use Rattle.rules.specs.Abort.{news}
 use Rattle.rules.specs.History.{Log, who_in}
 use Rattle.rules.specs.Reachable.{Reachable}
-use Rattle.rules.specs.Exactly.{In, All, all_map, NoneOf}
-use Rattle.rules.specs.Terms.{NoEntry, OwnIs, own_is}
-use Rattle.rules.specs.Members.{in_or_not, all_in, in_all}
-use Rattle.rules.specs.CommitRefuses.{commit_lines}
+use Rattle.rules.specs.Exactly.{In, All, NoneOf}
+use Rattle.rules.proofs.Exactly.{all_map}
+use Rattle.rules.specs.Terms.{NoEntry, OwnIs}
+use Rattle.rules.proofs.Terms.{own_is}
+use Rattle.rules.proofs.Members.{in_or_not, all_in, in_all}
+use Rattle.rules.proofs.CommitRefuses.{commit_lines}
 use Rattle.rules.specs.Published.{From, Apart}
-use Rattle.rules.specs.CommitPublishes.{commit_moves_each_head, commit_keeps_other_heads, commit_marks_each_base, commit_links_each_new, commit_keeps_other_cells, commit_keeps_the_clock}
+use Rattle.rules.proofs.CommitPublishes.{commit_moves_each_head, commit_keeps_other_heads, commit_marks_each_base, commit_links_each_new, commit_keeps_other_cells, commit_keeps_the_clock}
 use Rattle.upstream.specs.Images.{Image, image_of}
 use Rattle.upstream.specs.Publication.{publication_prefix, published_all, SameButLocks}
 use Rattle.upstream.specs.Publishes.{phase_3_head, phase_3_other_head, phase_3_sizes, phase_3_new, phase_3_base, phase_3_else}

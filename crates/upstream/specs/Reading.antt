@@ -16,24 +16,27 @@ use Rattle.words.specs.Lists.{nonzero, first, last, or_else}
 use Rattle.kinds.specs.Versions.{version_at}
 use Rattle.words.specs.Slots.{Slot, Write, Rec, rec, add_recs, slot_of}
 use Rattle.rules.specs.Memory.{Mem, size_n, head_at, words_at, slot_at, with_slot}
-use Rattle.rules.specs.Chain.{Chain, chain, After, ends, goesOn, broken, Look, found, nothing, too_long, harmed, look_of, look}
+use Rattle.rules.specs.Chain.{Chain, chain, After, ends, goes_on, broken, Look, found, nothing, too_long, harmed, look_of, look}
 use Rattle.rules.specs.Outcome.{Outcome, refuse_read, slot_tests, row_test, is_cell}
 use Rattle.rules.specs.Read.{own, answer_at, recorded, blocked, sees, sight_of, own_sight, read_row, read_end, read_out}
 use Rattle.rules.specs.History.{Log, who_in, rows_in, cells_in}
 use Rattle.rules.specs.Reachable.{Reachable, In, chain_at, walked_at, sees_at, times}
-use Rattle.rules.specs.Theory.Cases.{by_bool, and_true, or_true}
-use Rattle.rules.specs.Theory.SlotLaws.{with_recs, slot_recs, recs_length}
+use Rattle.rules.proofs.Theory.Cases.{by_bool, and_true, or_true}
+use Rattle.rules.specs.Theory.SlotLaws.{with_recs}
+use Rattle.rules.proofs.Theory.SlotLaws.{slot_recs, recs_length}
 use Rattle.rules.specs.Theory.View.{view_of}
 use Rattle.rules.specs.Theory.Counting.{cnt}
-use Rattle.rules.specs.Theory.Chains.{all_below, chain_spelled, rest_of, take_whole}
-use Rattle.rules.specs.Theory.Places.{chain_cell}
-use Rattle.rules.specs.Theory.Guard.{guard_case}
+use Rattle.rules.specs.Theory.Chains.{rest_of}
+use Rattle.rules.proofs.Theory.Chains.{all_below, chain_spelled, take_whole}
+use Rattle.rules.proofs.Theory.Places.{chain_cell}
+use Rattle.rules.proofs.Theory.Guard.{guard_case}
 use Rattle.rules.specs.Theory.Good.{Owner}
-use Rattle.rules.specs.Theory.Never.{open_slot}
-use Rattle.rules.specs.Theory.OnePlace.{times_is}
-use Rattle.rules.specs.Theory.Facts.{at_row}
-use Rattle.rules.specs.Theory.Steps.{Sound, hist_of}
-use Rattle.rules.specs.Theory.ReadLaw.{reachable_sound}
+use Rattle.rules.proofs.Theory.Never.{open_slot}
+use Rattle.rules.proofs.Theory.OnePlace.{times_is}
+use Rattle.rules.proofs.Theory.Facts.{at_row}
+use Rattle.rules.specs.Theory.Steps.{hist_of}
+use Rattle.rules.proofs.Theory.Steps.{Sound}
+use Rattle.rules.proofs.Theory.ReadLaw.{reachable_sound}
 use Rattle.upstream.specs.Images.{Image, image_of, stored, Snapshot, snapshot}
 use Rattle.upstream.specs.Seen.{visible, first_along, first_visible, along}
 use Rattle.upstream.specs.Transactions.{last_write, selected_value, value_at, answered}
@@ -86,7 +89,7 @@ rest_short zero (c ∷ l) e = let y : ◌≡◌ {A = ℕ} 0 1 = cc in absurd (om
 rest_short (suc k) [] e = omega arith
 rest_short (suc k) (c ∷ l) e = let y = rest_short k l e in omega arith
 
-rest_long : (k : ℕ) (l : List ℕ) → rest_of k l ≡ goesOn → k < length l
+rest_long : (k : ℕ) (l : List ℕ) → rest_of k l ≡ goes_on → k < length l
 unfolding rest_of
 rest_long zero [] e = let y : ◌≡◌ {A = ℕ} 0 1 = cc in absurd (omega arith)
 rest_long zero (c ∷ l) e = omega arith
@@ -205,25 +208,25 @@ module _ {z : Sizes} (rm : Roomy z) (m : Mem z) (l : Log) (rc : Reachable m l) (
   found_is : (o : Option ℕ) (a : After) (c : ℕ) → look_of o a ≡ found c → o ≡ some c
   found_is (some d) a c e = let q : d ≡ c = cc in rw q
   found_is none ends c e = let y : ◌≡◌ {A = ℕ} 0 1 = cc in absurd (omega arith)
-  found_is none goesOn c e = let y : ◌≡◌ {A = ℕ} 0 1 = cc in absurd (omega arith)
+  found_is none goes_on c e = let y : ◌≡◌ {A = ℕ} 0 1 = cc in absurd (omega arith)
   found_is none broken c e = let y : ◌≡◌ {A = ℕ} 0 1 = cc in absurd (omega arith)
 
   nothing_is : (o : Option ℕ) (a : After) → look_of o a ≡ nothing → (o ≡ none) × (a ≡ ends)
   nothing_is (some d) a e = let y : ◌≡◌ {A = ℕ} 0 1 = cc in absurd (omega arith)
   nothing_is none ends e = (refl, refl)
-  nothing_is none goesOn e = let y : ◌≡◌ {A = ℕ} 0 1 = cc in absurd (omega arith)
+  nothing_is none goes_on e = let y : ◌≡◌ {A = ℕ} 0 1 = cc in absurd (omega arith)
   nothing_is none broken e = let y : ◌≡◌ {A = ℕ} 0 1 = cc in absurd (omega arith)
 
-  long_is : (o : Option ℕ) (a : After) → look_of o a ≡ too_long → (o ≡ none) × (a ≡ goesOn)
+  long_is : (o : Option ℕ) (a : After) → look_of o a ≡ too_long → (o ≡ none) × (a ≡ goes_on)
   long_is (some d) a e = let y : ◌≡◌ {A = ℕ} 0 1 = cc in absurd (omega arith)
   long_is none ends e = let y : ◌≡◌ {A = ℕ} 0 1 = cc in absurd (omega arith)
-  long_is none goesOn e = (refl, refl)
+  long_is none goes_on e = (refl, refl)
   long_is none broken e = let y : ◌≡◌ {A = ℕ} 0 1 = cc in absurd (omega arith)
 
   harmed_is : (o : Option ℕ) (a : After) → look_of o a ≡ harmed → a ≡ broken
   harmed_is (some d) a e = let y : ◌≡◌ {A = ℕ} 0 1 = cc in absurd (omega arith)
   harmed_is none ends e = let y : ◌≡◌ {A = ℕ} 0 1 = cc in absurd (omega arith)
-  harmed_is none goesOn e = let y : ◌≡◌ {A = ℕ} 0 1 = cc in absurd (omega arith)
+  harmed_is none goes_on e = let y : ◌≡◌ {A = ℕ} 0 1 = cc in absurd (omega arith)
   harmed_is none broken e = refl
 
   -- `find_visible_row_ptr`: where it is Ok, its answer is `first_visible` from the row's head ..
@@ -264,7 +267,7 @@ module _ {z : Sizes} (rm : Roomy z) (m : Mem z) (l : Log) (rc : Reachable m l) (
     where
       too_far : (a : After) → rest_of z.walk cells ≡ a → z.walk < length cells → look_of none a ≡ too_long
       too_far ends e lt = absurd (omega (arith, rest_short z.walk cells e))
-      too_far goesOn e lt = refl
+      too_far goes_on e lt = refl
       too_far broken e lt = absurd (rest_whole z.walk cells e)
 
   pub find_visible_row_ptr_is_never_harmed : finds ≡ harmed → ⊥

@@ -1,7 +1,7 @@
 -- 000, `vacuum_row_acquired`, of every reachable store and every open reader at once, accepted or refused: `safe_result` and
 -- `prefix_preserved`, under 01's rule and under 000's own. A reader with prepared writes, which 000's `admissible` leaves out, is no
 -- exception.
-use Rattle.std.specs.Prelude.{ℕ, ◌<◌, ◌≤◌, Bool, true, false, ◌≡◌, refl, ◌≢◌, ◌⊎◌}
+use Rattle.std.specs.Prelude.{ℕ, ◌<◌, ◌≤◌, Bool, true, false, ◌≡◌, refl, ◌≢◌}
 use mathlib.Core.List.{List, [], ◌∷◌, reverse_aux}
 use Rattle.std.proofs.Math.Option.{some}
 use Rattle.std.proofs.Common.{sym, ◌∙◌, subst, inl, inr, ⊎_elim, arith, eq-eqb, ne_eqb}
@@ -12,32 +12,38 @@ use Rattle.words.specs.Sizes.{Sizes, Roomy}
 use Rattle.kinds.specs.Versions.{with_next, empty_version, version_at, link_at}
 use Rattle.words.specs.Slots.{Slot}
 use Rattle.rules.specs.Memory.{Mem, size_n, free, head_at, slot_at}
-use Rattle.rules.specs.Chain.{After, ends, goesOn, broken}
+use Rattle.rules.specs.Chain.{After, ends, goes_on, broken}
 use Rattle.rules.specs.Snapshot.{horizon}
 use Rattle.rules.specs.Outcome.{Outcome, is_cell}
 use Rattle.rules.specs.Vacuum.{vacuum_out}
 use Rattle.rules.specs.Run.{vacuum, step, run}
 use Rattle.rules.specs.History.{Log, log_of, who_in, rows_in, cells_in}
 use Rattle.rules.specs.Reachable.{Reachable, chain_at, free_at, times, behind}
-use Rattle.rules.specs.Exactly.{In, All, NoneOf, holds_true, is_not}
-use Rattle.rules.specs.Terms.{CellOf, is_cell_lem}
-use Rattle.rules.specs.Along.{Along, ChainIs, chain_is}
-use Rattle.rules.specs.Theory.Cases.{by_eq}
-use Rattle.rules.specs.Theory.View.{view_of, get_slots}
+use Rattle.rules.specs.Exactly.{In, All, NoneOf}
+use Rattle.rules.proofs.Exactly.{holds_true, is_not}
+use Rattle.rules.specs.Terms.{CellOf}
+use Rattle.rules.proofs.Terms.{is_cell_lem}
+use Rattle.rules.specs.Along.{Along}
+use Rattle.rules.proofs.Along.{ChainIs, chain_is}
+use Rattle.rules.proofs.Theory.Cases.{by_eq}
+use Rattle.rules.specs.Theory.View.{view_of}
+use Rattle.rules.proofs.Theory.View.{get_slots}
 use Rattle.rules.specs.Theory.Effects.{slot_v}
 use Rattle.rules.specs.Theory.Counting.{cnt}
 use Rattle.rules.specs.Theory.Inv.{in_slot}
-use Rattle.rules.specs.Theory.Good.{Owner, view_open}
+use Rattle.rules.specs.Theory.Good.{Owner}
+use Rattle.rules.proofs.Theory.Good.{view_open}
 use Rattle.rules.specs.Theory.Steps.{hist_of}
-use Rattle.rules.specs.Theory.Never.{open_slot}
-use Rattle.rules.specs.Theory.ReadLaw.{reachable_sound}
-use Rattle.rules.specs.Theory.VacuumCall.{horizon_under}
-use Rattle.rules.specs.Members.{all_in, in_all}
+use Rattle.rules.proofs.Theory.Never.{open_slot}
+use Rattle.rules.proofs.Theory.ReadLaw.{reachable_sound}
+use Rattle.rules.proofs.Theory.VacuumCall.{horizon_under}
+use Rattle.rules.proofs.Members.{all_in, in_all}
 use Rattle.rules.specs.HandedOut.{FreeFrom, FreeList}
-use Rattle.rules.specs.VacuumRefuses.{Reclaimable, is_reclaimable, keep_picks, WholeChain, DeadOf, vacuum_lines, vacuum_refuses_exactly}
-use Rattle.rules.specs.OneOutcome.{KeptOf, vacuum_walks}
-use Rattle.rules.specs.VacuumRemoves.{vacuum_of_an_empty_row}
-use Rattle.rules.specs.Demand3.{calls_lead_to_reachable_stores, free_list_ends, chained_cell_is_nowhere_else, vacuum_removes_nothing_that_a_reader_sees, sizes_are_the_creations, slot_has_the_open_id}
+use Rattle.rules.specs.VacuumRefuses.{Reclaimable}
+use Rattle.rules.proofs.VacuumRefuses.{is_reclaimable, keep_picks, WholeChain, DeadOf, vacuum_lines, vacuum_refuses_exactly}
+use Rattle.rules.proofs.OneOutcome.{KeptOf, vacuum_walks}
+use Rattle.rules.proofs.VacuumRemoves.{vacuum_of_an_empty_row}
+use Rattle.rules.proofs.Demand3.{calls_lead_to_reachable_stores, free_list_ends, chained_cell_is_nowhere_else, vacuum_removes_nothing_that_a_reader_sees, sizes_are_the_creations, slot_has_the_open_id}
 use Rattle.upstream.specs.Images.{image_of, Snapshot, snapshot}
 use Rattle.upstream.specs.Seen.{first_visible, reachable}
 use Rattle.upstream.specs.Standing.{reachable_alive, chained_version_is_of_nobody_open, reachable_image_is_valid, open_snapshot_is_well_formed}
@@ -271,7 +277,7 @@ module _ {z : Sizes} (rm : Roomy z) (m : Mem z) (l : Log) (rc : Reachable m l) w
           where
             way_cells : (a : After) → ChainIs (size_n m) (version_at m.cells) (size_n m) (head_at m row) (chain_at m row).cells a → All (CellOf (size_n m)) (chain_at m row).cells
             way_cells ends i = i.0.cells
-            way_cells goesOn i = i.1.cells
+            way_cells goes_on i = i.1.cells
             way_cells broken i = i.1.cells
 
     module _ (see : Version → Bool) (same : (v w : Version) → DataSame v w → see v ≡ see w) (unseen : (c : ℕ) → In c (behind (chain_at m row).cells) → Eligible (version_at m.cells c) hz → see (version_at m.cells c) ≡ false) where

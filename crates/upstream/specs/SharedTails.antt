@@ -16,8 +16,8 @@ use Rattle.kinds.specs.Versions.{reclaimable}
 use Rattle.rules.specs.History.{Log, rows_in}
 use Rattle.rules.specs.Reachable.{Reachable, chain_at}
 use Rattle.rules.specs.Exactly.{In}
-use Rattle.rules.specs.Terms.{is_cell_lem}
-use Rattle.rules.specs.Demand3.{chained_cell_is_nowhere_else, sizes_are_the_creations}
+use Rattle.rules.proofs.Terms.{is_cell_lem}
+use Rattle.rules.proofs.Demand3.{chained_cell_is_nowhere_else, sizes_are_the_creations}
 use Rattle.upstream.specs.Images.{image_of, stored, Points, ImageValid}
 use Rattle.upstream.specs.Safe.{in_times}
 

@@ -9,7 +9,7 @@ use Rattle.kinds.specs.declared.Answer.TheVariants.{Done, Begun, Wrote, Vacuumed
 use Rattle.kinds.specs.declared.Version.{Version}
 use Rattle.words.specs.Sizes.{Sizes, Roomy}
 use Rattle.rules.specs.Numbers.{bad_size}
-use Rattle.words.specs.Lists.{nonzero, has}
+use Rattle.words.specs.Lists.{nonzero}
 use Rattle.kinds.specs.Versions.{version_at}
 use Rattle.words.specs.Slots.{Slot, Write}
 use Rattle.rules.specs.Memory.{Mem, size_r, size_n, head_at, slot_at}
@@ -23,22 +23,25 @@ use Rattle.rules.specs.Abort.{abort_out, news}
 use Rattle.rules.specs.Run.{Call, create, begin, read, write, commit, abort, vacuum, lookup, lookup_all, step, run}
 use Rattle.rules.specs.History.{Log, log_of, logged, if_done, if_begun, if_wrote, made, began, wrote, said, ended, commits, writes_in, who_in, rows_in, cells_in}
 use Rattle.rules.specs.Reachable.{Reachable, All, chain_at, times, sees_at}
-use Rattle.rules.specs.Demand3.{snapshot_is_in_order, slot_has_the_open_id}
-use Rattle.rules.specs.Theory.Cases.{by_eq, by_bool, by_le, and_true, no_both}
-use Rattle.rules.specs.Theory.View.{View, view_of, get_slots}
+use Rattle.rules.proofs.Demand3.{snapshot_is_in_order, slot_has_the_open_id}
+use Rattle.rules.proofs.Theory.Cases.{by_eq, by_bool, by_le, and_true, no_both}
+use Rattle.rules.specs.Theory.View.{View, view_of}
+use Rattle.rules.proofs.Theory.View.{get_slots}
 use Rattle.rules.specs.Theory.Effects.{slot_v}
-use Rattle.rules.specs.Theory.Counting.{cnt, cnt_head, cnt_tail, cnt_other}
+use Rattle.rules.specs.Theory.Counting.{cnt}
+use Rattle.rules.proofs.Theory.Counting.{cnt_head, cnt_tail, cnt_other}
 use Rattle.rules.specs.Theory.Inv.{Inv, Spelled, nexts, in_slot, Entries, vers}
-use Rattle.rules.specs.Theory.Chains.{all_below, chain_spelled, take_whole}
-use Rattle.rules.specs.Theory.Places.{own_cell, chain_cell}
-use Rattle.rules.specs.Theory.Guard.{guard_case}
+use Rattle.rules.proofs.Theory.Chains.{all_below, chain_spelled, take_whole}
+use Rattle.rules.proofs.Theory.Places.{own_cell, chain_cell}
+use Rattle.rules.proofs.Theory.Guard.{guard_case}
 use Rattle.rules.specs.Theory.Good.{Owner}
-use Rattle.rules.specs.Theory.Never.{open_slot}
-use Rattle.rules.specs.Theory.OnePlace.{times_is}
-use Rattle.rules.specs.Theory.Facts.{at_row, has_all}
-use Rattle.rules.specs.Theory.VacuumCall.{row_chain_lem}
-use Rattle.rules.specs.Theory.Steps.{Sound, hist_of, step_sound, create_starts, commits_sizes}
-use Rattle.rules.specs.Theory.ReadLaw.{reachable_sound}
+use Rattle.rules.proofs.Theory.Never.{open_slot}
+use Rattle.rules.proofs.Theory.OnePlace.{times_is}
+use Rattle.rules.proofs.Theory.Facts.{at_row, has_all}
+use Rattle.rules.proofs.Theory.VacuumCall.{row_chain_lem}
+use Rattle.rules.specs.Theory.Steps.{hist_of}
+use Rattle.rules.proofs.Theory.Steps.{Sound, step_sound, create_starts, commits_sizes}
+use Rattle.rules.proofs.Theory.ReadLaw.{reachable_sound}
 use Rattle.upstream.specs.Images.{image_of, stored, ImageValid, snapshot}
 use Rattle.upstream.specs.Seen.{visible}
 use Rattle.upstream.specs.Transactions.{TransactionValid}

@@ -15,19 +15,24 @@ use Rattle.kinds.specs.Visible as ours
 use Rattle.rules.specs.Read.{own}
 use Rattle.rules.specs.History.{Log, Val, who_in, rows_in, cells_in, own_in, view_in, value_in}
 use Rattle.rules.specs.Reachable.{Reachable, All, chain_at, sees_at}
-use Rattle.rules.specs.Theory.Cases.{by_eq, by_bool, no_both}
-use Rattle.rules.specs.Theory.View.{view_of, get_slots}
+use Rattle.rules.proofs.Theory.Cases.{by_eq, by_bool, no_both}
+use Rattle.rules.specs.Theory.View.{view_of}
+use Rattle.rules.proofs.Theory.View.{get_slots}
 use Rattle.rules.specs.Theory.Effects.{slot_v}
-use Rattle.rules.specs.Theory.Counting.{cnt, cnt_other}
-use Rattle.rules.specs.Theory.Inv.{ver_of, vers, vis, vis_is, pick, Single, Open, Recorded, all_map}
-use Rattle.rules.specs.Theory.Places.{placed_row}
+use Rattle.rules.specs.Theory.Counting.{cnt}
+use Rattle.rules.proofs.Theory.Counting.{cnt_other}
+use Rattle.rules.specs.Theory.Inv.{ver_of, vers, vis, pick, Single, Open, Recorded}
+use Rattle.rules.proofs.Theory.Inv.{vis_is, all_map}
+use Rattle.rules.proofs.Theory.Places.{placed_row}
 use Rattle.rules.specs.Theory.Publish.{vers_f}
-use Rattle.rules.specs.Theory.Reading.{Own, own_is}
+use Rattle.rules.specs.Theory.Reading.{Own}
+use Rattle.rules.proofs.Theory.Reading.{own_is}
 use Rattle.rules.specs.Theory.Good.{Owner}
-use Rattle.rules.specs.Theory.Never.{open_slot}
-use Rattle.rules.specs.Theory.Facts.{at_row}
-use Rattle.rules.specs.Theory.Steps.{Sound, hist_of}
-use Rattle.rules.specs.Theory.ReadLaw.{reachable_sound}
+use Rattle.rules.proofs.Theory.Never.{open_slot}
+use Rattle.rules.proofs.Theory.Facts.{at_row}
+use Rattle.rules.specs.Theory.Steps.{hist_of}
+use Rattle.rules.proofs.Theory.Steps.{Sound}
+use Rattle.rules.proofs.Theory.ReadLaw.{reachable_sound}
 use Rattle.upstream.specs.Images.{Image, image_of, snapshot}
 use Rattle.upstream.specs.Seen.{first_visible}
 use Rattle.upstream.specs.Transactions.{last_write, selected_value, value_at}

@@ -16,24 +16,30 @@ use Rattle.rules.specs.Chain.{ends, Chain, chain}
 use Rattle.rules.specs.Snapshot.{horizon}
 use Rattle.rules.specs.Outcome.{Outcome}
 use Rattle.rules.specs.Vacuum.{relink, vacuum_out}
-use Rattle.rules.specs.Exactly.{In, All, NoneOf, holds_true}
-use Rattle.rules.specs.Terms.{Fitting, store_fits, CellOf, is_cell_lem}
-use Rattle.rules.specs.Along.{Along, is_chain}
-use Rattle.rules.specs.Theory.Cases.{by_bool, no_both}
+use Rattle.rules.specs.Exactly.{In, All, NoneOf}
+use Rattle.rules.proofs.Exactly.{holds_true}
+use Rattle.rules.specs.Terms.{Fitting, CellOf}
+use Rattle.rules.proofs.Terms.{store_fits, is_cell_lem}
+use Rattle.rules.specs.Along.{Along}
+use Rattle.rules.proofs.Along.{is_chain}
+use Rattle.rules.proofs.Theory.Cases.{by_bool, no_both}
 use Rattle.rules.specs.Theory.CellLaws.{HasCell}
-use Rattle.rules.specs.Members.{Once, in_or_not, all_in, in_all}
-use Rattle.rules.specs.ChainOnce.{chain_passes_each_cell_once}
+use Rattle.rules.specs.Members.{Once}
+use Rattle.rules.proofs.Members.{in_or_not, all_in, in_all}
+use Rattle.rules.proofs.ChainOnce.{chain_passes_each_cell_once}
 use Rattle.rules.specs.GivenBack.{give_all}
-use Rattle.rules.specs.Relinked.{relink_length, relink_else}
-use Rattle.rules.specs.HandedOut.{FreeList, free_agree, give_all_in_front}
-use Rattle.rules.specs.VacuumRefuses.{Reclaimable, WholeChain, DeadOf, vacuum_lines, ended_chain}
-use Rattle.rules.specs.OneOutcome.{KeptOf, vacuum_meets}
+use Rattle.rules.proofs.Relinked.{relink_length, relink_else}
+use Rattle.rules.specs.HandedOut.{FreeList}
+use Rattle.rules.proofs.HandedOut.{free_agree, give_all_in_front}
+use Rattle.rules.specs.VacuumRefuses.{Reclaimable}
+use Rattle.rules.proofs.VacuumRefuses.{WholeChain, DeadOf, vacuum_lines, ended_chain}
+use Rattle.rules.proofs.OneOutcome.{KeptOf, vacuum_meets}
 use Rattle.upstream.specs.Images.{image_of, stored, ImageValid}
 use Rattle.upstream.specs.Seen.{reachable}
 use Rattle.upstream.specs.RetentionTerms.{Eligible, DataSame, MetadataSame, MetadataSameBut, ReportProvenance, Reclaimed, live_of, reclaimed_of, ReclaimedProvenance, first_seen, prefix, PrefixIneligible}
 use Rattle.upstream.specs.Reading.{reachable_is_the_chain}
 use Rattle.upstream.specs.Chains.{first_without, first_in, next_same_above, Falling, falling_along, falling_picked, falling_next}
-use Rattle.rules.specs.VacuumRemoves as W
+use Rattle.rules.proofs.VacuumRemoves as W
 use Rattle.upstream.specs.Transactions as up
 
 pub same_but_next : (v w : Version) (y : ℕ) → w ≡ with_next v y → DataSame v w

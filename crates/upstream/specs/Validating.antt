@@ -18,14 +18,15 @@ use Rattle.rules.specs.Outcome.{Outcome, Test, guard, each, refuse, slot_tests, 
 use Rattle.rules.specs.Commit.{commit_out, commit_tests, record_tests, base_tests, new_tests}
 use Rattle.rules.specs.History.{Log, who_in, rows_in, cells_in}
 use Rattle.rules.specs.Reachable.{Reachable, All}
-use Rattle.rules.specs.Terms.{is_conflicting}
-use Rattle.rules.specs.CommitRefusedWhen.{commit_refused_9_names_first_conflicting_record}
-use Rattle.rules.specs.Theory.Cases.{by_bool, or_true, no_both}
-use Rattle.rules.specs.Theory.Inv.{all_map}
+use Rattle.rules.proofs.Terms.{is_conflicting}
+use Rattle.rules.proofs.CommitRefusedWhen.{commit_refused_9_names_first_conflicting_record}
+use Rattle.rules.proofs.Theory.Cases.{by_bool, or_true, no_both}
+use Rattle.rules.proofs.Theory.Inv.{all_map}
 use Rattle.rules.specs.Theory.Guard.{Passed}
-use Rattle.rules.specs.Theory.Never.{open_slot, slot_passed}
-use Rattle.rules.specs.Theory.Steps.{Sound, hist_of}
-use Rattle.rules.specs.Theory.ReadLaw.{reachable_sound}
+use Rattle.rules.proofs.Theory.Never.{open_slot, slot_passed}
+use Rattle.rules.specs.Theory.Steps.{hist_of}
+use Rattle.rules.proofs.Theory.Steps.{Sound}
+use Rattle.rules.proofs.Theory.ReadLaw.{reachable_sound}
 use Rattle.upstream.specs.Images.{image_of}
 use Rattle.upstream.specs.ReadTerms as up
 use Rattle.upstream.specs.ReadTerms.{some_conflict, reads_conflict}

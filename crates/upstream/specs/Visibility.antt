@@ -8,7 +8,7 @@ use Rattle.words.specs.Lists.{nonzero, has}
 use Rattle.kinds.specs.Versions.{version}
 use Rattle.words.specs.Slots.{Slot}
 use Rattle.rules.specs.Reachable.{All}
-use Rattle.rules.specs.Theory.Cases.{by_bool, by_eq, by_le}
+use Rattle.rules.proofs.Theory.Cases.{by_bool, by_eq, by_le}
 use Rattle.kinds.specs.Visible as ours
 use Rattle.upstream.specs.Images.{snapshot}
 use Rattle.upstream.specs.Seen.{creator_visible, visible}

@@ -14,13 +14,13 @@ use Rattle.rules.specs.Numbers.{bad_row, result_full, damaged}
 use Rattle.words.specs.Lists.{keep, fold}
 use Rattle.kinds.specs.Versions.{value_of, version_at}
 use Rattle.rules.specs.Memory.{Mem, size_r, size_n, head_at, with_cells}
-use Rattle.rules.specs.Chain.{After, ends, goesOn, broken, Chain, chained, chain}
+use Rattle.rules.specs.Chain.{After, ends, goes_on, broken, Chain, chained, chain}
 use Rattle.rules.specs.Snapshot.{horizon}
 use Rattle.rules.specs.Outcome.{Outcome, out, guard, refuse, store_tests, row_test}
-use Rattle.rules.specs.Verdicts.{guard_append}
+use Rattle.rules.proofs.Verdicts.{guard_append}
 use Rattle.rules.specs.Abort.{give_back}
 use Rattle.rules.specs.Vacuum.{relink, reports, swept, vacuum_now, vacuum_out}
-use Rattle.rules.specs.Theory.Cases.{by_eq}
+use Rattle.rules.proofs.Theory.Cases.{by_eq}
 use Rattle.chains.specs.declared.Tally.{Tally}
 use Rattle.chains.specs.declared.Tally.TheVariants.{Harmed, Sound}
 use Rattle.chains.specs.Lines.{chain_end, chain_broken, chain_next}
@@ -96,7 +96,7 @@ module _ {z : Sizes} (m : Mem z) (row request room : ℕ) where
         harmed_now : (l : List ℕ) (a : After) → tally (dead m.cells hz) 0 (chained l a) ≡ Harmed → refuse m damaged 0 ≡ vacuum_now m hz room (head_at m row ∷ l) a
         unfolding vacuum_now tally
         harmed_now l ends e = absurd (let q : ◌≡◌ {A = ℕ} 0 1 = cc in omega arith)
-        harmed_now l goesOn e = refl
+        harmed_now l goes_on e = refl
         harmed_now l broken e = refl
 
         now_harmed : come ≡ Harmed → refuse m damaged 0 ≡ vacuum_rest

@@ -12,9 +12,10 @@ use Rattle.rules.specs.Memory.{Mem, mem}
 use Rattle.rules.specs.Abort.{give_back}
 use Rattle.rules.specs.Vacuum.{reports, relink}
 use Rattle.rules.specs.Theory.CellLaws.{HasCell}
-use Rattle.rules.specs.Theory.Bridge.{AllCells, all_cells}
+use Rattle.rules.specs.Theory.Bridge.{AllCells}
+use Rattle.rules.proofs.Theory.Bridge.{all_cells}
 use Rattle.rules.specs.Theory.Counting.{cnt}
-use Rattle.rules.specs.Theory.Same.{same_relink}
+use Rattle.rules.proofs.Theory.Same.{same_relink}
 use Rattle.chains.specs.declared.Tally.TheVariants.{Sound}
 use Rattle.chains.specs.Lines.{Ends, line, chain_next, walk_ends, walk_line, line_once, line_cells, cells_kept}
 use Rattle.chains.specs.Tallies.{dead, alive, tally, sound}

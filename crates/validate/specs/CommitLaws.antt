@@ -9,12 +9,13 @@ use Rattle.words.specs.Sizes.{Sizes, base, WRITES}
 use Rattle.words.specs.Slots.{Slot, Write, write, threes, slot_of}
 use Rattle.rules.specs.Memory.{Mem, mem, size_r, size_n}
 use Rattle.rules.specs.Outcome.{each}
-use Rattle.rules.specs.Verdicts.{verdict, and_then, verdict_append}
+use Rattle.rules.specs.Verdicts.{verdict, and_then}
+use Rattle.rules.proofs.Verdicts.{verdict_append}
 use Rattle.words.specs.WordLaws.{threes_step, threes_done}
 use Rattle.rules.specs.Commit.{record_tests, base_tests, new_tests, commit_tests}
 use Rattle.rules.specs.Theory.Bridge.{AllIn}
-use Rattle.rules.specs.Theory.CommitCall.{commit_facts}
-use Rattle.rules.specs.TestLaws.{fine_passed}
+use Rattle.rules.proofs.Theory.CommitCall.{commit_facts}
+use Rattle.rules.proofs.TestLaws.{fine_passed}
 use Rattle.validate.specs.Arenas.{lent}
 
 module _ {z : Sizes} (m : Mem z) (t : Slot) where

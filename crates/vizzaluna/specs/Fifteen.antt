@@ -4,18 +4,20 @@ use Rattle.std.specs.Prelude.{ℕ, Bool, true, false, ◌&&◌, List, [], ◌∷
 use Rattle.std.proofs.lemmas.Bool.{false≢true}
 use Rattle.std.proofs.Common.{sym, ap, ◌∙◌, inl, inr}
 use Rattle.words.specs.Sizes.{Sizes}
-use Rattle.rules.specs.Theory.Cases.{by_bool}
+use Rattle.rules.proofs.Theory.Cases.{by_bool}
 use Rattle.rules.specs.Memory.{Mem, size_r, slot_at}
 use Rattle.words.specs.Slots.{Slot, Rec}
 use Rattle.words.specs.Lists.{from}
 use Rattle.rules.specs.Lookup.{own_rows, rows_to_read}
 use Rattle.rules.specs.Run.{Call, create, begin, read, write, commit, abort, vacuum, lookup, lookup_all, step}
-use Rattle.rules.specs.Exactly.{Line, Refuses, Lacks, each_of, under, lacks_append, lacks_each, lacks_under, lacks_refuses}
-use Rattle.rules.specs.EveryRefusal.{RefusedAs, table_of, refused_exactly_by_the_table}
-use Rattle.rules.specs.SharedLines.{slot_lines}
-use Rattle.rules.specs.CommitRefuses.{record_lines, base_lines, new_lines, valid_lines}
-use Rattle.rules.specs.AbortRefuses.{undo_lines}
-use Rattle.rules.specs.LookupRefuses.{find_lines, candidate_lines, own_row_lines}
+use Rattle.rules.specs.Exactly.{Line, Refuses, Lacks, each_of, under}
+use Rattle.rules.proofs.Exactly.{lacks_append, lacks_each, lacks_under, lacks_refuses}
+use Rattle.rules.specs.EveryRefusal.{RefusedAs}
+use Rattle.rules.proofs.EveryRefusal.{table_of, refused_exactly_by_the_table}
+use Rattle.rules.proofs.SharedLines.{slot_lines}
+use Rattle.rules.proofs.CommitRefuses.{record_lines, base_lines, new_lines, valid_lines}
+use Rattle.rules.proofs.AbortRefuses.{undo_lines}
+use Rattle.rules.proofs.LookupRefuses.{find_lines, candidate_lines, own_row_lines}
 
 -- 1 to 15
 abbrev pub is_refusal : ℕ → Bool

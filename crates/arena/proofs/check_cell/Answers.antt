@@ -1,5 +1,5 @@
 use Rattle.rules.specs.Verdicts.{verdict}
-use Rattle.rules.specs.TestLaws.{no_cell, past_cell, some_cell_lem}
+use Rattle.rules.proofs.TestLaws.{no_cell, past_cell, some_cell_lem}
 use Rattle.arena.proofs.check_cell.Goals as goal
 
 pub returns-then-cell-eq0 : goal.returns-then-cell-eq0

@@ -1,5 +1,5 @@
 use Rattle.arena.specs.CellReads.{link_of_none, link_past_end}
-use Rattle.rules.specs.Theory.CellLaws.{cell_index}
+use Rattle.rules.proofs.Theory.CellLaws.{cell_index}
 use lib.ListN.{get_or}
 use Prim.Native.Nat.{ℕ}
 use mathlib.Core.List.{List}

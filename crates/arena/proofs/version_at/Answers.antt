@@ -1,5 +1,5 @@
 use Rattle.arena.specs.CellReads.{version_of_none, version_past_end}
-use Rattle.rules.specs.Theory.CellLaws.{cell_index}
+use Rattle.rules.proofs.Theory.CellLaws.{cell_index}
 use Rattle.kinds.specs.Versions.{version_of}
 use mathlib.Core.Path.{sym, ap, ◌∙◌}
 use native.Mathlib.Omega.{arith}

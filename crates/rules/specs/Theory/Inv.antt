@@ -5,18 +5,16 @@
 use Rattle.std.specs.Prelude.{cond, Bool, ◌&&◌, not, true, false, ◌≢◌, ◌≡◌, ℕ, ◌+◌, ◌<◌, ◌≤◌, eqb, ltb, get_or, length}
 use mathlib.Core.List.{List, [], ◌∷◌}
 use Rattle.std.proofs.Math.Option.{some, none, Option}
-use Rattle.std.proofs.Math.Path.{refl}
-use Rattle.std.proofs.Common.{subst, sym, ap, ◌∙◌}
 use Rattle.kinds.specs.declared.Version.{Version}
 use Rattle.words.specs.Lists.{nonzero, has, least, greatest}
 use Rattle.words.specs.Slots.{Slot, Write, Rec}
-use Rattle.kinds.specs.Visible.{creator_visible, visible}
+use Rattle.kinds.specs.Visible.{creator_visible}
 use Rattle.rules.specs.Abort.{news}
 use Rattle.rules.specs.History.{Val, said}
 use Rattle.rules.specs.Reachable.{All}
 use Rattle.rules.specs.Theory.View.{View, empty_slot}
 use Rattle.rules.specs.Theory.Effects.{slot_v}
-use Rattle.rules.specs.Theory.Counting.{cnt, cnt_head, cnt_tail, bit, sum}
+use Rattle.rules.specs.Theory.Counting.{cnt, bit, sum}
 
 -- what a reader looks at
 pub record Ver : Type 0 where
@@ -36,11 +34,6 @@ nexts st c = (st.vers c).next.0
 unfoldable pub vis : Slot → Ver → Bool
 vis t v = creator_visible t v.xmin && not (nonzero v.xmax && creator_visible t v.xmax)
 
--- the rule of paper 01 looks at no more
-pub vis_is : (t : Slot) (v : Version) → visible t v ≡ vis t (ver_of v)
-unfolding visible vis ver_of
-vis_is t v = refl
-
 -- `l` is the list that `nx` spells from h
 abbrev pub Spelled : (ℕ → ℕ) → ℕ → List ℕ → Type 0
 Spelled nx h [] = h ≡ 0
@@ -50,15 +43,6 @@ Spelled nx h (c ∷ l) = (h ≡ c) × (c ≢ 0) × Spelled nx (nx c) l
 unfoldable pub pick : Slot → (ℕ → Ver) → List ℕ → Option Val
 pick t f [] = none
 pick t f (c ∷ l) = cond (vis t (f c)) (some (f c).val) (pick t f l)
-
-pub spelled_frame : (f g : ℕ → ℕ) (n h : ℕ) (l : List ℕ) → ((c : ℕ) → c ≢ n → g c ≡ f c) → cnt n l ≡ 0 → Spelled f h l → Spelled g h l
-spelled_frame f g n h [] same z s = s
-spelled_frame f g n h (c ∷ l) same z s = (s.0, s.1, subst (λ (k : ℕ). Spelled g k l) (sym (same c (λ e. cnt_head n c l z (sym e)))) (spelled_frame f g n (f c) l same (cnt_tail n c l z) s.2))
-
-pub pick_frame : (t : Slot) (f g : ℕ → Ver) (n : ℕ) (l : List ℕ) → ((c : ℕ) → c ≢ n → g c ≡ f c) → cnt n l ≡ 0 → pick t g l ≡ pick t f l
-unfolding pick
-pick_frame t f g n [] same z = refl
-pick_frame t f g n (c ∷ l) same z = rw (same c (λ e. cnt_head n c l z (sym e)), pick_frame t f g n l same (cnt_tail n c l z))
 
 -- the value of the row's own write
 unfoldable pub own_find : (ℕ → Ver) → List Write → ℕ → Option Val
@@ -128,10 +112,6 @@ abbrev pub Entries : (ℕ → Ver) → ℕ → ℕ → List Write → Type 0
 Entries f R t [] = Unit {0}
 Entries f R t (w ∷ l) = (w.row < R) × ((f w.new).xmin ≡ t) × ((f w.new).xmax ≡ 0) × (own_find f l w.row ≡ none) × Entries f R t l
 
-pub all_map : {A : Type 0} (P Q : A → Type 0) (l : List A) → ((q : A) → P q → Q q) → All P l → All Q l
-all_map P Q [] f a = tt
-all_map P Q (q ∷ l) f a = (f q a.0, all_map P Q l f a.1)
-
 -- a recorded cell stands in its row's chain, with the xmin that was read, and is seen: so it is never reused while the reader is open
 pub record Recorded (f : ℕ → Ver) (rows : List (List ℕ)) (s : Slot) (q : Rec) : Type 0 where
   pub placed : cnt q.cell (get_or rows q.row []) ≢ 0
@@ -163,60 +143,3 @@ pub record Inv (R n : ℕ) (st : View) (g : Ghost) (h : Hist) (pend : List ℕ) 
   pub known : (i : ℕ) → (slot_v st i).id ≡ h.who i
   pub closed : (i : ℕ) → (slot_v st i).id ≡ 0 → (slot_v st i).writes ≡ []
   pub opens : (i : ℕ) → (slot_v st i).id ≢ 0 → Open R st g h i
-
--- ---- frames: versions that change at one cell only, which is not among those looked at
-module _ (f g : ℕ → Ver) (n : ℕ) (same : (c : ℕ) → c ≢ n → g c ≡ f c) where
-  -- a cell of a list that n is not in
-  pub same_in : (l : List ℕ) → cnt n l ≡ 0 → (d : ℕ) → cnt d l ≢ 0 → g d ≡ f d
-  same_in l z d nz = same d (λ e. nz (subst (λ (x : ℕ). cnt x l ≡ 0) (sym e) z))
-
-  pub top_frame : (k : ℕ) (ss : List Slot) (l : List ℕ) (o : Option Val) → cnt n l ≡ 0 → Top f k ss l o → Top g k ss l o
-  top_frame k ss [] o z t = t
-  top_frame k ss (c ∷ l) o z t =
-      let e = same c (λ e. cnt_head n c l z (sym e)) in (
-        ap (λ (x : Ver). x.xmax) e ∙ t.0,
-        subst (λ (x : Ver). Settled k ss x.xmin) (sym e) t.1,
-        t.2 ∙ ap (λ (x : Ver). some x.val) (sym e),
-        λ d nz. subst (λ (x : Ver). Settled k ss x.xmax) (sym (same_in l (cnt_tail n c l z) d nz)) (t.3 d nz),
-      )
-
-  pub single_frame : (t : Slot) (l : List ℕ) → cnt n l ≡ 0 → Single t f l → Single t g l
-  single_frame t [] z s = tt
-  single_frame t (c ∷ l) z s = (
-    λ v d nz. ap (vis t) (same_in l (cnt_tail n c l z) d nz) ∙ s.0 (sym (ap (vis t) (same c (λ e. cnt_head n c l z (sym e)))) ∙ v) d nz,
-    single_frame t l (cnt_tail n c l z) s.1,
-  )
-
-  pub own_frame : (ws : List Write) (r : ℕ) → cnt n (news ws) ≡ 0 → own_find g ws r ≡ own_find f ws r
-  unfolding own_find
-  own_frame [] r z = refl
-  own_frame (w ∷ l) r z = rw (same w.new (λ e. cnt_head n w.new (news l) z (sym e)), own_frame l r (cnt_tail n w.new (news l) z))
-
-  pub entries_frame : (R t : ℕ) (ws : List Write) → cnt n (news ws) ≡ 0 → Entries f R t ws → Entries g R t ws
-  entries_frame R t [] z e = tt
-  entries_frame R t (w ∷ l) z e =
-      rw (same w.new (λ q. cnt_head n w.new (news l) z (sym q)), own_frame l w.row (cnt_tail n w.new (news l) z))
-      (e.0, e.1, e.2, e.3, entries_frame R t l (cnt_tail n w.new (news l) z) e.4)
-
-  pub recorded_frame : (rows : List (List ℕ)) (s : Slot) → ((r : ℕ) → cnt n (get_or rows r []) ≡ 0) → (q : Rec) → Recorded f rows s q → Recorded g rows s q
-  recorded_frame rows s z q a =
-      let e = same_in (get_or rows q.row []) (z q.row) q.cell a.placed in
-      record { placed = a.placed; minned = rw e a.minned; seen = rw e a.seen }
-
--- an open slot, where one cell changes that stands in no chain and not in its write set
-pub open_frame : (R : ℕ) (st st' : View) (g g' : Ghost) (h : Hist) (c i : ℕ) → st'.clock ≡ st.clock → st'.slots ≡ st.slots → g'.rows ≡ g.rows
-    → ((d : ℕ) → d ≢ c → vers st' d ≡ vers st d) → ((r : ℕ) → cnt c (get_or g.rows r []) ≡ 0) → in_slot c (slot_v st i) ≡ 0
-    → Open R st g h i → Open R st' g' h i
-open_frame R st st' g g' h c i ec es er vs ur us o =
-    let s = slot_v st i in
-    let t : slot_v st' i ≡ s = ap (λ (ss : List Slot). get_or ss i empty_slot) es in
-    record {
-      snap = rw (ec, es) o.snap;
-      taken = rw (ec, t) o.taken;
-      reads = λ r. rw (t, er) (pick_frame s (vers st) (vers st') c _ vs (ur r) ∙ o.reads r);
-      single = λ r. rw (t, er) (single_frame (vers st) (vers st') c vs s _ (ur r) (o.single r));
-      owns = λ r. rw t (own_frame (vers st) (vers st') c vs s.writes r us ∙ o.owns r);
-      entries = rw t (entries_frame (vers st) (vers st') c vs R s.id s.writes us o.entries);
-      records = rw (t, er) (all_map _ _ s.recs (recorded_frame (vers st) (vers st') c vs g.rows s ur) o.records);
-      apart = rw t o.apart;
-    }

@@ -1,4 +1,4 @@
-use Rattle.rules.specs.TestLaws.{tests_done, tests_stop, tests_next}
+use Rattle.rules.proofs.TestLaws.{tests_done, tests_stop, tests_next}
 use Rattle.undo.specs.UndoLaws.{lent}
 use Rattle.rules.specs.Abort.{abort_tests}
 use Rattle.rules.specs.Verdicts.{verdict}

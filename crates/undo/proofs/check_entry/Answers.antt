@@ -1,5 +1,5 @@
 use mathlib.Core.Path.{sym, ◌∙◌}
-use Rattle.rules.specs.Verdicts.{verdict_fails, verdict_passes}
+use Rattle.rules.proofs.Verdicts.{verdict_fails, verdict_passes}
 use borrow.Author.Tests.{lt-ltb, le-ltb}
 use borrow.Author.Rules.{rules}
 use Rattle.undo.proofs.check_entry.Goals as goal

@@ -1,4 +1,4 @@
-use Rattle.rules.specs.TestLaws.{tests_done, tests_stop, tests_next}
+use Rattle.rules.proofs.TestLaws.{tests_done, tests_stop, tests_next}
 use Rattle.validate.specs.Arenas.{lent, sized}
 use Rattle.rules.specs.Verdicts.{verdict}
 use Rattle.rules.specs.Outcome.{each}
