@@ -1,5 +1,5 @@
-/* Vizzaluna: a small store of row versions for joint-limit sets, for C and C++. Link target/staticlib/libvizzaluna.a (x86-64), which
- * `rt staticlib vizzaluna` makes. It needs memcpy and memset, and nothing else: no heap, no file, no thread, no state of its own.
+/* Vizzaluna: a small store of row versions for joint-limit sets, for C and C++. Link crates/vizzaluna/out/libvizzaluna.a (x86-64),
+ * which `rt lib` makes in crates/vizzaluna. It needs memcpy and memset, and nothing else: no heap, no file, no thread, no state of its own.
  *
  * A store lives in memory that the host lends to every call: four arenas, each a pointer and a count. Rows 0 to R-1 each hold a chain of
  * versions, newest first. A transaction is a slot and an id; it reads one snapshot, taken when it began, whatever others commit meanwhile.

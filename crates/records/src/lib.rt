@@ -1,6 +1,5 @@
 // The slots for hosts: records of two numbers that lie side by side, and what is taken over that lent list. Nothing is changed, nothing
-// is asked of the list, and it may have any length. A function over a list of structs is proved by a walk by hand: those are thin, and leave
-// what a slot counts for to functions by value.
+// is asked of the list, and it may have any length. What a slot counts for is left to functions by value.
 #![tactic(auto)]
 
 ghost use Rattle.std.specs.Prelude.{◌≡◌, min};
@@ -15,7 +14,7 @@ pub struct Slot {
     pub xmin: u64,
 }
 
-// Where both walks begin: no slot is passed over.
+// Where both loops begin: no slot is passed over.
 const FIRST: usize = 0;
 
 fn lesser(a: u64, b: u64) -> u64
@@ -58,10 +57,8 @@ fn least_xmin(slots: &[Slot], ceiling: u64) -> u64
     ensures { result ≡ least ceiling (xmins slots.now) }
 {
     let mut least = ceiling;
-    let mut i = FIRST;
-    while i < slots.len() {
+    for i in FIRST..slots.len() {
         least = lower_to_xmin(slots[i], least);
-        i += 1;
     }
     least
 }
@@ -78,10 +75,8 @@ pub fn least_active(slots: &[Slot], clock: u64) -> u64
     ensures { result ≡ least_active slots.now clock }
 {
     let mut least = clock;
-    let mut i = FIRST;
-    while i < slots.len() {
+    for i in FIRST..slots.len() {
         least = lower_to_id(slots[i], least);
-        i += 1;
     }
     least
 }

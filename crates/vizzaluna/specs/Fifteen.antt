@@ -1,6 +1,6 @@
 -- The number that a host is given tells a refusal from an accepted call: every refusal of every call has one of the numbers 1 to 15, so 0 is
 -- told of accepted calls alone. And no refusal of `create` and `begin` is about anything, so those two need no out-parameter for it.
-use Rattle.std.specs.Prelude.{ℕ, Bool, true, false, ◌&&◌, List, [], ◌∷◌, ◌++◌, ◌≡◌, refl, ◌≢◌, leb}
+use Rattle.std.specs.Prelude.{ℕ, Bool, true, ◌&&◌, List, [], ◌∷◌, ◌++◌, ◌≡◌, refl, ◌≢◌, leb}
 use Rattle.std.proofs.lemmas.Bool.{false≢true}
 use Rattle.std.proofs.Common.{sym, ap, ◌∙◌, inl, inr}
 use Rattle.words.specs.Sizes.{Sizes}

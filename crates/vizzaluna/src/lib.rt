@@ -14,7 +14,7 @@ ghost use Rattle.rules.specs.Commit.{commit_out};
 ghost use Rattle.rules.specs.Abort.{abort_out};
 ghost use Rattle.rules.specs.Vacuum.{vacuum_out};
 ghost use Rattle.rules.specs.Lookup.{lookup_out, lookup_all_out, front_of};
-ghost use Rattle.rules.specs.Lent.{mem_in, mem_out};
+ghost use Rattle.rules.specs.Lent.{lent, mem_in, mem_out};
 ghost use Rattle.records.specs.Horizon.{horizon_of, least_active};
 ghost use Rattle.told.specs.Numbers.{chosen};
 ghost use Rattle.vizzaluna.specs.Seen.{Made, Began, Read, Wrote, Ended, Swept, Found};
@@ -50,8 +50,8 @@ pub extern "C" fn vizzaluna_begin(
     slot: &mut u64,
     id: &mut u64,
 ) -> u64
-    ensures { Began (begin_out (mem_in meta rows cells slots))
-        result slot.new id.new (mem_out meta rows cells slots) }
+    ensures { Began (begin_out (lent meta.old rows.now cells.now slots.old))
+        result slot.new id.new (lent meta.new rows.now cells.now slots.new) }
 {
     let answer = store::begin(meta, rows, cells, slots);
     *slot = told::first(answer);
@@ -73,8 +73,8 @@ pub extern "C" fn vizzaluna_read(
     key: &mut u64,
     about: &mut u64,
 ) -> u64
-    ensures { Read (read_out (mem_in meta rows cells slots) slot id row)
-        result kind.new key.new about.new (mem_out meta rows cells slots) }
+    ensures { Read (read_out (lent meta.now rows.now cells.now slots.old) slot id row)
+        result kind.new key.new about.new (lent meta.now rows.now cells.now slots.new) }
 {
     let answer = store::read(meta, rows, cells, slots, slot, TxId(id), row);
     *kind = told::kind(answer);
@@ -98,8 +98,8 @@ pub extern "C" fn vizzaluna_write(
     cell: &mut u64,
     about: &mut u64,
 ) -> u64
-    ensures { Wrote (write_out (mem_in meta rows cells slots) slot id row (chosen keyed key))
-        result cell.new about.new (mem_out meta rows cells slots) }
+    ensures { Wrote (write_out (lent meta.old rows.now cells.old slots.old) slot id row (chosen keyed key))
+        result cell.new about.new (lent meta.new rows.now cells.new slots.new) }
 {
     let value = told::value(keyed, key);
     let answer = store::write(meta, rows, cells, slots, slot, TxId(id), row, value);
@@ -119,7 +119,8 @@ pub extern "C" fn vizzaluna_commit(
     id: u64,
     about: &mut u64,
 ) -> u64
-    ensures { Ended (commit_out (mem_in meta rows cells slots) slot id) result about.new (mem_out meta rows cells slots) }
+    ensures { Ended (commit_out (lent meta.now rows.old cells.old slots.old) slot id)
+        result about.new (lent meta.now rows.new cells.new slots.new) }
 {
     let answer = store::commit(meta, rows, cells, slots, slot, TxId(id));
     *about = told::about(answer);
@@ -137,7 +138,8 @@ pub extern "C" fn vizzaluna_abort(
     id: u64,
     about: &mut u64,
 ) -> u64
-    ensures { Ended (abort_out (mem_in meta rows cells slots) slot id) result about.new (mem_out meta rows cells slots) }
+    ensures { Ended (abort_out (lent meta.old rows.now cells.old slots.old) slot id)
+        result about.new (lent meta.new rows.now cells.new slots.new) }
 {
     let answer = store::abort(meta, rows, cells, slots, slot, TxId(id));
     *about = told::about(answer);
@@ -159,8 +161,8 @@ pub extern "C" fn vizzaluna_vacuum(
     key: &mut u64,
     about: &mut u64,
 ) -> u64
-    ensures { Swept (vacuum_out (mem_in meta rows cells slots) row request (length reports.old))
-        result count.new kind.new key.new about.new (mem_out meta rows cells slots) reports.old reports.new }
+    ensures { Swept (vacuum_out (lent meta.old rows.now cells.old slots.now) row request (length reports.old))
+        result count.new kind.new key.new about.new (lent meta.new rows.now cells.new slots.now) reports.old reports.new }
 {
     let answer = store::vacuum(meta, rows, cells, slots, row, request, reports);
     let live = told::live(answer);
@@ -186,8 +188,8 @@ pub extern "C" fn vizzaluna_lookup(
     count: &mut u64,
     about: &mut u64,
 ) -> u64
-    ensures { Found (lookup_out (mem_in meta rows cells slots) slot id key candidates.now (length results.old))
-        result count.new about.new (mem_out meta rows cells slots) results.old results.new }
+    ensures { Found (lookup_out (lent meta.now rows.now cells.now slots.old) slot id key candidates.now (length results.old))
+        result count.new about.new (lent meta.now rows.now cells.now slots.new) results.old results.new }
 {
     let who = TxId(id);
     let answer = store::lookup(
@@ -212,8 +214,8 @@ pub extern "C" fn vizzaluna_lookup_all(
     count: &mut u64,
     about: &mut u64,
 ) -> u64
-    ensures { Found (lookup_all_out (mem_in meta rows cells slots) slot id key (length results.old))
-        result count.new about.new (mem_out meta rows cells slots) results.old results.new }
+    ensures { Found (lookup_all_out (lent meta.now rows.now cells.now slots.old) slot id key (length results.old))
+        result count.new about.new (lent meta.now rows.now cells.now slots.new) results.old results.new }
 {
     let answer = store::lookup_all(meta, rows, cells, slots, slot, TxId(id), key, results);
     *count = told::first(answer);
