@@ -1,4 +1,3 @@
 pub mod Horizon
-pub mod FoldLaws
 pub mod LeastLaws
 pub mod StoreLaws

@@ -1,6 +1,6 @@
 -- A turn takes one slot off the front, and the loop ends with none left.
 use Rattle.std.proofs.Common.{◌∙◌, sym}
-use Rattle.records.specs.FoldLaws.{lowers, fold_is_least, fold_next, fold_end}
+use Rattle.records.proofs.FoldLaws.{lowers, fold_is_least, fold_next, fold_end}
 use Rattle.records.specs.Horizon.{least_active}
 use Rattle.records.proofs.least_active.Goals as goal
 
