@@ -6,41 +6,29 @@ pub mod Transactions
 pub mod Visibility
 -- what reachable stores meet
 pub mod Born
-pub mod BornCalls
 pub mod Standing
 -- reads
 pub mod ReadTerms
 pub mod Reading
 pub mod Told
 pub mod Materialize
-pub mod Validating
 pub mod LockTest
 -- slots and clock
 pub mod LifecycleTerms
-pub mod Lifecycle
-pub mod Clocks
 pub mod Frames
 -- publication
 pub mod Publication
-pub mod Publishes
-pub mod PreparedWrites
 -- vacuum
 pub mod RetentionTerms
 pub mod Chains
-pub mod Vacuums
 pub mod Protected
-pub mod Safe
 pub mod SharedTails
-pub mod ApartWrites
-pub mod PublishesAll
 pub mod Horizons
 pub mod Witnesses
 -- the story of 001
 pub mod Story
 pub mod Native
-pub mod NativeVacuum
 pub mod NativeRun
 pub mod NativeReaders
-pub mod NativeMet
 -- not empty
 pub mod Examples

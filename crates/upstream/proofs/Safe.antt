@@ -46,17 +46,17 @@ use Rattle.rules.proofs.VacuumRemoves.{vacuum_of_an_empty_row}
 use Rattle.rules.proofs.Demand3.{calls_lead_to_reachable_stores, free_list_ends, chained_cell_is_nowhere_else, vacuum_removes_nothing_that_a_reader_sees, sizes_are_the_creations, slot_has_the_open_id}
 use Rattle.upstream.specs.Images.{image_of, Snapshot, snapshot}
 use Rattle.upstream.specs.Seen.{first_visible, reachable}
-use Rattle.upstream.specs.Standing.{reachable_alive, chained_version_is_of_nobody_open, reachable_image_is_valid, open_snapshot_is_well_formed}
+use Rattle.upstream.proofs.Standing.{reachable_alive, chained_version_is_of_nobody_open, reachable_image_is_valid, open_snapshot_is_well_formed}
 use Rattle.upstream.specs.RetentionTerms.{Eligible, SnapshotWellFormed, Admissible, DataSame, state_of, Newly, first_seen, prefix, PrefixIneligible, PrefixPreserved, SafeResult}
-use Rattle.upstream.specs.Protected.{sees01, sees01_same, sees000, sees000_same, eligible_is_not_seen, eligible_is_not_seen_under_000}
-use Rattle.upstream.specs.Reading.{reachable_is_the_chain}
-use Rattle.upstream.specs.Chains.{first_visible_is_first_seen, down_to_in}
-use Rattle.upstream.specs.Vacuums.{same_data, in_turned}
+use Rattle.upstream.specs.Protected.{sees01, sees000}
+use Rattle.upstream.proofs.Protected.{sees01_same, sees000_same, eligible_is_not_seen, eligible_is_not_seen_under_000}
+use Rattle.upstream.proofs.Reading.{reachable_is_the_chain}
+use Rattle.upstream.proofs.Chains.{first_visible_is_first_seen, down_to_in}
+use Rattle.upstream.proofs.Vacuums.{same_data, in_turned}
 use Rattle.rules.specs.Reachable as Reach
-use Rattle.upstream.specs.Vacuums as W
+use Rattle.upstream.proofs.Vacuums as W
 
 -- ---- of any memory and any snapshot that the horizon protects
-
 module _ {z : Sizes} (m : Mem z) (row request room : ℕ) (accepted : NoneOf (vacuum_lines m row request room)) (h : ℕ) (l d k : List ℕ) (whole : WholeChain m row (h ∷ l)) (dead : DeadOf m (horizon m request) l d) (kept : KeptOf m row request room l k) where
   abbrev next : Mem z
   next = (vacuum_out m row request room).after
@@ -74,7 +74,6 @@ module _ {z : Sizes} (m : Mem z) (row request room : ℕ) (accepted : NoneOf (va
       ∙ sym (first_visible_is_first_seen (image_of next) (head_at next row) t)
 
 -- ---- the free list
-
 free_along : (n : ℕ) (cs : List (List ℕ)) (l : List ℕ) (p : ℕ) → Along (λ c. with_next empty_version (link_at cs c)) p l 0 → All (CellOf n) l → FreeFrom cs p l
 free_along n cs [] p a h = a
 free_along n cs (c ∷ l) p a h = (a.0, ((λ e. omega (arith, h.0.low, e)), free_along n cs l (link_at cs c) a.1 h.1))
@@ -118,7 +117,6 @@ module _ {z : Sizes} (rm : Roomy z) (m : Mem z) (l : Log) (rc : Reachable m l) w
   no_free_cell_is_reachable row in_r x i j = in_times x (free_at m).cells i (chained_cell_is_nowhere_else rm m l rc row x in_r (in_times x (chain_at m row).cells j)).unfree
 
 -- ---- open readers and the horizon
-
 in_behind : (c : ℕ) (l : List ℕ) → In c (behind l) → In c l
 in_behind c [] i = i
 in_behind c (x ∷ l) i = inr i
@@ -163,7 +161,6 @@ module _ {z : Sizes} (rm : Roomy z) (m : Mem z) (l : Log) (rc : Reachable m l) (
       unwritten p = rw bare
 
 -- ---- one vacuum
-
 module _ {z : Sizes} (rm : Roomy z) (m : Mem z) (l : Log) (rc : Reachable m l) where
   module _ (row request room : ℕ) (in_r : row < rows_in l) where
     abbrev after : Mem z
@@ -236,7 +233,6 @@ module _ {z : Sizes} (rm : Roomy z) (m : Mem z) (l : Log) (rc : Reachable m l) w
             }
 
     -- ---- in every case: accepted, accepted of a row without versions, refused
-
     -- what `vacuum_row_acquired` promises of both answers, of one reader; d are the cells removed
     pub record Safe (see : Version → Bool) (b : Mem z) : Type 0 where
       pub removed : List ℕ

@@ -21,7 +21,6 @@ use Rattle.upstream.specs.Images.{Image, image_of}
 use Rattle.upstream.specs.Publication.{publication_prefix, Same, SameButLock, AllowedPrefix}
 
 -- ---- phase 3, head by head and cell by cell
-
 module _ (s : Image) (w : Write) (id : ℕ) where
   pub phase_3_head : (r : ℕ) → r ≡ w.row → (publication_prefix s w id 3).heads r ≡ w.new
   phase_3_head r e = rw (eq-eqb r w.row e)
@@ -46,7 +45,6 @@ module _ (s : Image) (w : Write) (id : ℕ) where
       (λ e. rw (ne_eqb c w.new n, ne_eqb w.base 0 e, ne_eqb c w.base (b e)))
 
 -- ---- a commit of one write. Of all that `prepared` asks only this is left: the new cell is not the base
-
 module _ {z : Sizes} (m : Mem z) (s id : ℕ) (w : Write) (one : (slot_at m s).writes ≡ w ∷ []) (differ : w.new ≢ w.base) where
   abbrev after : Mem z
   after = (commit_out m s id).after

@@ -64,7 +64,8 @@ use Rattle.rules.proofs.Theory.CommitCall.{commit_facts}
 use Rattle.rules.proofs.Theory.AbortCall.{abort_entries_in}
 use Rattle.rules.proofs.Theory.VacuumCall.{cells_of}
 use Rattle.rules.proofs.Theory.VacuumCall.{row_chain_lem, swept_rows, horizon_under}
-use Rattle.upstream.specs.Born.{On, Born, Lows, min_of, of_min, Ready, Distinct, frame, on_row, row_on, on_unslot, on_unfree, on_listed, listed_on, give_gone, give_stays, give_rest, publish_all_born, head, next}
+use Rattle.upstream.specs.Born.{On, Born, Lows, min_of, of_min, Ready, Distinct, head, next}
+use Rattle.upstream.proofs.Born.{frame, on_row, row_on, on_unslot, on_unfree, on_listed, listed_on, give_gone, give_stays, give_rest, publish_all_born}
 
 -- a slot stored: it keeps its id and its writes, or is empty
 slot_born : (R n : ℕ) (st : View) (s : ℕ) (t : Slot) → s < length st.slots → (t.id ≢ 0 → (t.id ≡ (slot_v st s).id) × (t.writes ≡ (slot_v st s).writes)) → Lows t → Born R n st → Born R n (put_slot st s t)
@@ -136,7 +137,6 @@ module _ {z : Sizes} (R N : ℕ) (m : Mem z) (h : Hist) (gd : Good R N m h) (b :
   iv = gd.inv
 
   -- ---- begin
-
   begin_slot : (s : ℕ) → s < z.slots → Kept (begun m s)
   unfolding cnt
   begin_slot s lt =
@@ -162,7 +162,6 @@ module _ {z : Sizes} (R N : ℕ) (m : Mem z) (h : Hist) (gd : Good R N m h) (b :
       begin_slot s (leb-false z.slots s q.0))
 
   -- ---- read and lookup
-
   module _ (s id : ℕ) (o : Owner m s id) where
     within : s < length st.slots
     within = open_in st.slots s (view_open m s id o)
@@ -203,7 +202,6 @@ module _ {z : Sizes} (R N : ℕ) (m : Mem z) (h : Hist) (gd : Good R N m h) (b :
       (λ p. let o = owner m s id p in found_born s id o _ key room _ (found_fine R N m h gd s id o key room _ (all_rows_below R N m h gd)))
 
   -- ---- write
-
   module _ (s id row : ℕ) (v : Option ℕ) where
     replaced_born : (c : ℕ) → HasCell m.cells c → Kept (replaced m c v)
     unfolding cnt
@@ -263,7 +261,6 @@ module _ {z : Sizes} (R N : ℕ) (m : Mem z) (h : Hist) (gd : Good R N m h) (b :
         (λ p. now_born (owner m s id (passed_split (slot_tests m s id) (row_test m row ∷ []) p).0) (own (slot_at m s).writes row))
 
   -- ---- commit
-
   module _ (s id : ℕ) where
     abbrev ws : List Write
     ws = (slot_at m s).writes
@@ -304,7 +301,6 @@ module _ {z : Sizes} (R N : ℕ) (m : Mem z) (h : Hist) (gd : Good R N m h) (b :
         (publish_all_born R (suc N) id ws st (ready ws f.0 en o.real (λ c k. rw at k)) (distinct (vers st) R id ws en (λ x. rw at at (once x))) b)))
 
   -- ---- abort
-
   module _ (s id : ℕ) where
     pub abort_born : Kept (abort_out m s id).after
     unfolding abort_out
@@ -339,7 +335,6 @@ module _ {z : Sizes} (R N : ℕ) (m : Mem z) (h : Hist) (gd : Good R N m h) (b :
         (λ j. rw rest.2 (b.lows j)))))
 
   -- ---- vacuum
-
   module _ (row : ℕ) (in_r : row < R) (hz : ℕ) (un : (i : ℕ) → (slot_v (view_of m) i).id ≢ 0 → hz ≤ (slot_v (view_of m) i).low) (hd : ℕ) (l : List ℕ) (here : get_or gd.ghost.rows row [] ≡ hd ∷ l) where
     abbrev p : ℕ → Bool
     p c = reclaimable hz (version_at m.cells c)
@@ -447,7 +442,6 @@ module _ {z : Sizes} (R N : ℕ) (m : Mem z) (h : Hist) (gd : Good R N m h) (b :
       rw (row_chain_lem R N m h gd row in_r) (vacuum_now_lem row in_r (horizon m request) (horizon_under m request) room (get_or gd.ghost.rows row []) refl))
 
 -- ---- an accepted creation, on any memory: every cell is cleared, no row has a head, no slot is open
-
 module _ {z : Sizes} (m : Mem z) (n r : ℕ) (e : fits m r n ≡ true) where
   abbrev fit : Fitting m r n
   fit = (is_fitting m r n).yes e

@@ -37,8 +37,9 @@ use Rattle.rules.proofs.OneOutcome.{KeptOf, vacuum_meets}
 use Rattle.upstream.specs.Images.{image_of, stored, ImageValid}
 use Rattle.upstream.specs.Seen.{reachable}
 use Rattle.upstream.specs.RetentionTerms.{Eligible, DataSame, MetadataSame, MetadataSameBut, ReportProvenance, Reclaimed, live_of, reclaimed_of, ReclaimedProvenance, first_seen, prefix, PrefixIneligible}
-use Rattle.upstream.specs.Reading.{reachable_is_the_chain}
-use Rattle.upstream.specs.Chains.{first_without, first_in, next_same_above, Falling, falling_along, falling_picked, falling_next}
+use Rattle.upstream.proofs.Reading.{reachable_is_the_chain}
+use Rattle.upstream.specs.Chains.{Falling}
+use Rattle.upstream.proofs.Chains.{first_without, first_in, next_same_above, falling_along, falling_picked, falling_next}
 use Rattle.rules.proofs.VacuumRemoves as W
 use Rattle.upstream.specs.Transactions as up
 
@@ -94,7 +95,6 @@ module _ {z : Sizes} (m : Mem z) (row request room : ℕ) (accepted : NoneOf (va
   rest_kept = W.vacuum_keeps_the_rest m row request room accepted h l d k whole dead kept
 
   -- ---- the chain before and after
-
   pub chain_before : reachable (image_of m) (head_at m row) ≡ h ∷ l
   chain_before = reachable_is_the_chain (image_of m) (size_n m) (head_at m row) ∙ ap (λ (c : Chain). c.cells) (is_chain (size_n m) (version_at m.cells) (size_n m) (head_at m row) (h ∷ l) ends (whole.way, whole.within))
 
@@ -133,7 +133,6 @@ module _ {z : Sizes} (m : Mem z) (row request room : ℕ) (accepted : NoneOf (va
       )
 
   -- ---- what is kept of the versions
-
   pub kept_data : (c : ℕ) → (In c d → ⊥) → DataSame (version_at m.cells c) (version_at after.cells c)
   kept_data c n =
       in_or_not c (h ∷ l)
@@ -203,7 +202,6 @@ module _ {z : Sizes} (m : Mem z) (row request room : ℕ) (accepted : NoneOf (va
           })
 
   -- ---- the first seen version, for a rule that does not look at next and does not see what is eligible
-
   module _ (see : Version → Bool) (same : (v w : Version) → DataSame v w → see v ≡ see w) (unseen : (c : ℕ) → In c l → Eligible (version_at m.cells c) hz → see (version_at m.cells c) ≡ false) where
     -- safe_result.3
     pub vacuum_row_acquired_first_visible_same : first_seen see (image_of m) (head_at m row) ≡ first_seen see (image_of after) (head_at after row)
@@ -229,7 +227,6 @@ module _ {z : Sizes} (m : Mem z) (row request room : ℕ) (accepted : NoneOf (va
     )
 
   -- ---- reports
-
   -- vacuum_row_acquired.12: each report is of a removed version. That each removed one is reported, once, newest first, stands in the rules
   -- (VacuumRemoves.antt)
   pub vacuum_row_acquired_report_provenance : ReportProvenance (image_of m) d (vacuum_out m row request room).front
@@ -257,7 +254,6 @@ module _ {z : Sizes} (m : Mem z) (row request room : ℕ) (accepted : NoneOf (va
   vacuum_row_acquired_counts_its_reports = W.vacuum_counts_its_reports m row request room accepted h l d k whole dead kept
 
   -- ---- the recycled cells: the free list
-
   module _ (fl : List ℕ) (frees : FreeList m fl) (apart : (x : ℕ) → In x fl → In x (h ∷ l) → ⊥) where
     after_is : after ≡ give_all d (with_cells m (relink (h ∷ k) m.cells))
     after_is = ap (λ (o : Outcome z Answer (List ℕ)). o.after) (((vacuum_meets m row request room).accepted accepted).sweeps h l d k whole dead kept)

@@ -25,12 +25,11 @@ use Rattle.rules.specs.Published.{From, Apart}
 use Rattle.rules.proofs.CommitPublishes.{commit_moves_each_head, commit_keeps_other_heads, commit_marks_each_base, commit_links_each_new, commit_keeps_other_cells, commit_keeps_the_clock}
 use Rattle.upstream.specs.Images.{Image, image_of}
 use Rattle.upstream.specs.Publication.{publication_prefix, published_all, SameButLocks}
-use Rattle.upstream.specs.Publishes.{phase_3_head, phase_3_other_head, phase_3_sizes, phase_3_new, phase_3_base, phase_3_else}
-use Rattle.upstream.specs.PreparedWrites.{new_in}
-use Rattle.upstream.specs.ApartWrites.{open_writes_are_apart}
+use Rattle.upstream.proofs.Publishes.{phase_3_head, phase_3_other_head, phase_3_sizes, phase_3_new, phase_3_base, phase_3_else}
+use Rattle.upstream.proofs.PreparedWrites.{new_in}
+use Rattle.upstream.proofs.ApartWrites.{open_writes_are_apart}
 
 -- ---- phase 3 of several writes, head by head and cell by cell
-
 module _ (id : ℕ) where
   all_sizes : (ws : List Write) (s : Image) → ((published_all ws id s).cells ≡ s.cells) × ((published_all ws id s).capacity ≡ s.capacity)
   unfolding published_all
@@ -85,7 +84,6 @@ new_of_lem (q ∷ ws) p (inl e) = (q, inl refl, e)
 new_of_lem (q ∷ ws) p (inr i) = let r = new_of_lem ws p i in (r.0, inr r.1, r.2)
 
 -- ---- an accepted commit
-
 module _ {z : Sizes} (m : Mem z) (s id : ℕ) (accepted : NoneOf (commit_lines m s id)) (apart : Apart (slot_at m s).writes) where
   abbrev ws : List Write
   ws = (slot_at m s).writes

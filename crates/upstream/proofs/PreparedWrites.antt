@@ -34,13 +34,12 @@ use Rattle.rules.proofs.Theory.ReadLaw.{reachable_sound}
 use Rattle.rules.proofs.Members.{in_or_not, in_append}
 use Rattle.rules.proofs.Demand3.{every_chain_ends, chained_cell_is_nowhere_else, sizes_are_the_creations, head_is_not_superseded, slot_has_the_open_id}
 use Rattle.upstream.specs.Images.{image_of, stored, snapshot}
-use Rattle.upstream.specs.Standing.{reachable_image_is_valid, unchained_cell_links_to_nothing}
+use Rattle.upstream.proofs.Standing.{reachable_image_is_valid, unchained_cell_links_to_nothing}
 use Rattle.upstream.specs.Publication.{Prepared}
 use Rattle.upstream.specs.RetentionTerms.{Admissible}
-use Rattle.upstream.specs.Safe.{in_times, all_at}
+use Rattle.upstream.proofs.Safe.{in_times, all_at}
 
 -- ---- lists
-
 in_joined : (f : ℕ → List ℕ) (x k a : ℕ) → In x (joined f (from a k)) → (r : ℕ) × (r < a + k) × In x (f r)
 unfolding joined from
 in_joined f x zero a i = absurd i
@@ -94,7 +93,6 @@ module _ {z : Sizes} (rm : Roomy z) (m : Mem z) (l : Log) (rc : Reachable m l) w
       i.0.along
 
   -- ---- an entry of an open write set
-
   module _ (s : ℕ) (op : who_in l s ≢ 0) (w : Write) (i : In w (slot_at m s).writes) where
     pub owns : Owner m s (who_in l s)
     owns = open_slot (rows_in l) (cells_in l) m (hist_of l) so s (who_in l s) op refl

@@ -24,9 +24,9 @@ use Rattle.rules.proofs.Theory.Places.{inb_le}
 use Rattle.rules.proofs.Theory.OnePlace.{times_is}
 use Rattle.rules.proofs.Theory.ReadLaw.{reachable_sound}
 use Rattle.rules.proofs.Demand3.{one_entry_a_row, base_is_head_and_locked}
-use Rattle.upstream.specs.Safe.{in_times, all_at}
-use Rattle.upstream.specs.PreparedWrites.{new_in, owns, entry_carries_its_writer, new_is_a_cell, new_is_unchained, head_in_chain}
-use Rattle.upstream.specs.SharedTails.{no_tail_is_shared}
+use Rattle.upstream.proofs.Safe.{in_times, all_at}
+use Rattle.upstream.proofs.PreparedWrites.{new_in, owns, entry_carries_its_writer, new_is_a_cell, new_is_unchained, head_in_chain}
+use Rattle.upstream.proofs.SharedTails.{no_tail_is_shared}
 
 -- a first member that stands once stands nowhere behind
 once_behind : (x : ℕ) (l : List ℕ) → times x (x ∷ l) ≤ 1 → (y : ℕ) → In y l → x ≢ y

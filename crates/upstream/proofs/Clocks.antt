@@ -24,7 +24,7 @@ use Rattle.rules.proofs.BeginTakes.{begin_advances_the_clock}
 use Rattle.rules.proofs.Theory.Guard.{guard_case}
 use Rattle.rules.proofs.Theory.Clock.{read_clock, write_clock, commit_clock, abort_clock, vacuum_clock, lookup_clock, lookup_all_clock}
 use Rattle.upstream.specs.LifecycleTerms.{Observation, Reservation}
-use Rattle.upstream.specs.Lifecycle.{reachable_state_is_well_formed}
+use Rattle.upstream.proofs.Lifecycle.{reachable_state_is_well_formed}
 
 module _ {z : Sizes} where
   fresh_clock : (m : Mem z) (n r : ℕ) → clock m ≤ last_id → clock (create_out m n r).after ≤ last_id

@@ -37,13 +37,13 @@ use Rattle.rules.proofs.CommitRefusedWhen.{Validating, commit_refused_9_names_fi
 use Rattle.upstream.specs.Images.{image_of, snapshot}
 use Rattle.upstream.specs.Transactions.{value_of}
 use Rattle.upstream.specs.RetentionTerms.{first_seen}
-use Rattle.upstream.specs.Vacuums.{vacuum_row_acquired_recycles, vacuum_row_acquired_counts_its_reports}
+use Rattle.upstream.proofs.Vacuums.{vacuum_row_acquired_recycles, vacuum_row_acquired_counts_its_reports}
 use Rattle.upstream.specs.Story.{Layout, Distinct, OldReader, published, pruned, Agree, AgreeButTail}
-use Rattle.upstream.specs.Native.{Inside, seen_at_once, SeesTheBirth, ReadsTheAnchor, reads_the_anchor_behind_the_writer, published_tail, published_anchor, published_fresh, pruned_anchor, pruned_fresh, old_reader_sees_the_birth, old_reader_misses_the_writer}
+use Rattle.upstream.specs.Native.{Inside, SeesTheBirth, ReadsTheAnchor}
+use Rattle.upstream.proofs.Native.{seen_at_once, reads_the_anchor_behind_the_writer, published_tail, published_anchor, published_fresh, pruned_anchor, pruned_fresh, old_reader_sees_the_birth, old_reader_misses_the_writer}
 use Rattle.rules.proofs.VacuumRemoves as W
 
 -- ---- a memory that shows `pruned`, whatever its tail holds
-
 module _ {z : Sizes} (m : Mem z) (l : Layout) (ok : Distinct l) (n birth writer before after : ℕ) (agree : AgreeButTail l (pruned l birth writer before after n) (image_of m)) where
   pruned_at_anchor : version_at m.cells l.anchor ≡ version birth writer 0 1 before 0 0
   pruned_at_anchor = sym agree.anchor ∙ pruned_anchor l ok birth writer before after n
@@ -57,7 +57,6 @@ module _ {z : Sizes} (m : Mem z) (l : Layout) (ok : Distinct l) (n birth writer 
       (ap (λ (v : Version). v.xmin.0) pruned_at_fresh) (ap (λ (v : Version). v.next.0) pruned_at_fresh) (ap (λ (v : Version). v.xmin.0) pruned_at_anchor) (ap (λ (v : Version). v.xmax.0) pruned_at_anchor) (ap value_of pruned_at_anchor)
 
 -- ---- native_vacuum_derives_history
-
 module _ {z : Sizes} (m : Mem z) (l : Layout) (ok : Distinct l) (inside : Inside (size_n m) l) (birth writer before after : ℕ) (agree : Agree l (published l birth writer before after (size_n m)) (image_of m)) (t : Slot) (old : OldReader (snapshot t) birth writer) (request room : ℕ) where
   abbrev hz : ℕ
   hz = horizon m request
@@ -160,7 +159,6 @@ module _ {z : Sizes} (m : Mem z) (l : Layout) (ok : Distinct l) (inside : Inside
       (vacuum_refuses_exactly m 0 request room).decided
 
 -- ---- native_vacuum_releases_anchor
-
 module _ {z : Sizes} (m : Mem z) (l : Layout) (ok : Distinct l) (n birth writer before after : ℕ) (agree : AgreeButTail l (pruned l birth writer before after n) (image_of m)) (request room : ℕ) (accepted : NoneOf (vacuum_lines m 0 request room)) (anchorIn : CellOf (size_n m) l.anchor) (freshIn : CellOf (size_n m) l.fresh) (old : 0 < writer) (late : writer < horizon m request) where
   abbrev two : List ℕ
   two = l.fresh ∷ l.anchor ∷ []
@@ -194,7 +192,6 @@ module _ {z : Sizes} (m : Mem z) (l : Layout) (ok : Distinct l) (n birth writer 
   )
 
 -- ---- native_initialize_preserves_reader: the write that takes the tail's cell
-
 module _ {z : Sizes} (m : Mem z) (l : Layout) (ok : Distinct l) (n birth writer before after reuser key : ℕ) (agree : AgreeButTail l (pruned l birth writer before after n) (image_of m)) (s row : ℕ) (accepted : NoneOf (write_lines m s reuser row)) (new : NoEntry (slot_at m s).writes row) (next-free : free m ≡ l.tail) (off : head_at m row ≢ l.anchor) where
   abbrev reusing : Mem z
   reusing = (write_out m s reuser row (some key)).after
@@ -230,7 +227,6 @@ module _ {z : Sizes} (m : Mem z) (l : Layout) (ok : Distinct l) (n birth writer 
       seen_at_once see (image_of reusing) l.anchor o (old.seen (version_at reusing.cells l.anchor) (ap (λ (v : Version). v.xmin.0) a) (inr (ap (λ (v : Version). v.xmax.0) a)))
 
 -- ---- native_read_after_reuse and native_validation_rejects_invisible_writer
-
 module _ {z : Sizes} (m : Mem z) (l : Layout) (ok : Distinct l) (n birth writer before after : ℕ) (agree : AgreeButTail l (pruned l birth writer before after n) (image_of m)) (inside : Inside (size_n m) l) (s id : ℕ) (old : OldReader (snapshot (slot_at m s)) birth writer) where
   abbrev t : Slot
   t = slot_at m s

@@ -31,10 +31,9 @@ use Rattle.rules.specs.Theory.Steps.{hist_of}
 use Rattle.rules.proofs.Theory.Steps.{Sound}
 use Rattle.rules.proofs.Theory.ReadLaw.{reachable_sound}
 use Rattle.upstream.specs.LifecycleTerms.{id_of, low_of, lowered, raised, active, minimum_active, maximum_active, minimum_retention, top_of, Coherent, WellFormed}
-use Rattle.upstream.specs.Standing.{open_snapshot_is_well_formed, empty_slot_has_xmin_0}
+use Rattle.upstream.proofs.Standing.{open_snapshot_is_well_formed, empty_slot_has_xmin_0}
 
 -- ---- 000's counts over the first n slots are ours over the list of the first n
-
 occupied_more : (k : ℕ) (l : List (List ℕ)) (t : List ℕ) → occupied k (l ++ t ∷ []) ≡ cond (eqb (get_or t ID 0) 0) (occupied k l) (occupied k l ++ get_or t k 0 ∷ [])
 unfolding occupied
 occupied_more k [] t = by_bool (eqb (get_or t ID 0) 0) (λ e. rw e) (λ e. rw e)
@@ -88,7 +87,6 @@ module _ (ss : List (List ℕ)) where
       raised_is (id_of ss n) (maximum_active ss n) (occupied ID (take n ss)) (maximum_active_is_greatest n (omega arith)) ∙ ap greatest (sym (occupied_next ID n le))
 
 -- ---- the snapshot rule
-
 least_lower : (c d : ℕ) (l : List ℕ) → c ≤ d → least c l ≡ min c (least d l)
 unfolding least
 least_lower c d [] le = omega arith
@@ -133,7 +131,6 @@ snapshot_locked_is_coherent ss n now le run low =
     }
 
 -- ---- every reachable store
-
 maximum_under : (ss : List (List ℕ)) (n k : ℕ) → ((i : ℕ) → i < n → id_of ss i ≤ k) → maximum_active ss n ≤ k
 unfolding maximum_active
 maximum_under ss zero k f = omega arith
@@ -178,7 +175,6 @@ module _ {z : Sizes} (rm : Roomy z) (m : Mem z) (l : Log) (rc : Reachable m l) w
       by_eq (who_in l i) 0 (λ q. let k = so.inv.ticking in omega (arith, e)) (λ q. omega (arith, e, id_is_below_the_clock rm m l rc i q))
 
   -- ---- `begin_transaction` and then `create_transaction_snapshot` is our begin
-
   -- what `begin_transaction` leaves: the id drawn, and the id as snapshot xmin
   abbrev pub registered : ℕ → List (List ℕ)
   registered s = set m.slots s (set (set (words_at m s) ID (clock m)) LOW (clock m))
@@ -237,7 +233,6 @@ module _ {z : Sizes} (rm : Roomy z) (m : Mem z) (l : Log) (rc : Reachable m l) w
         })
 
   -- ---- `end_transaction`
-
   -- an open transaction can always be ended: abort is done, with no other test than the slot's and the owner's
   pub end_transaction_by_abort_is_ok : (s : ℕ) → who_in l s ≢ 0 → (abort_out m s (who_in l s)).answer ≡ Done
   unfolding abort_out

@@ -30,7 +30,7 @@ use Rattle.rules.proofs.Theory.ReadLaw.{reachable_sound}
 use Rattle.upstream.specs.Images.{image_of}
 use Rattle.upstream.specs.ReadTerms as up
 use Rattle.upstream.specs.ReadTerms.{some_conflict, reads_conflict}
-use Rattle.upstream.specs.Told.{every_record_is_observed}
+use Rattle.upstream.proofs.Told.{every_record_is_observed}
 
 -- `read_conflict` of 000 is 01's Validation, for any version, record and reader
 pub read_conflict_agrees : (v : Version) (q : Rec) (t : Slot) → up.read_conflict v q t ≡ ours.conflict t v q.xmin

@@ -28,9 +28,11 @@ use Rattle.rules.proofs.ReadRefuses.{read_lines, read_refuses_exactly}
 use Rattle.upstream.specs.Images.{image_of, snapshot}
 use Rattle.upstream.specs.Protected.{sees01}
 use Rattle.upstream.specs.Story.{OldReader, published, pruned, Agree, AgreeButTail}
-use Rattle.upstream.specs.Native.{Inside, ReadsTheAnchor, old_reader_sees, native_publication_leaves_published, native_publication_derives_history}
-use Rattle.upstream.specs.NativeVacuum.{native_vacuum_reports_one, native_vacuum_recycles_the_tail, native_vacuum_leaves_pruned, native_vacuum_derives_history, native_vacuum_releases_anchor, native_validation_refuses_the_commit, native_initialize_preserves_reader, native_read_after_reuse, native_validation_rejects_invisible_writer}
-use Rattle.upstream.specs.NativeRun.{written, after_commit, after_vacuum, reusing, after_reuse, after_write, at_end, layout, story, layout_is_distinct, layout_is_inside, reader_is_old, pictures}
+use Rattle.upstream.specs.Native.{Inside, ReadsTheAnchor}
+use Rattle.upstream.proofs.Native.{old_reader_sees, native_publication_leaves_published, native_publication_derives_history}
+use Rattle.upstream.proofs.NativeVacuum.{native_vacuum_reports_one, native_vacuum_recycles_the_tail, native_vacuum_leaves_pruned, native_vacuum_derives_history, native_vacuum_releases_anchor, native_validation_refuses_the_commit, native_initialize_preserves_reader, native_read_after_reuse, native_validation_rejects_invisible_writer}
+use Rattle.upstream.specs.NativeRun.{written, after_commit, after_vacuum, reusing, after_reuse, after_write, at_end, layout}
+use Rattle.upstream.proofs.NativeRun.{story, layout_is_distinct, layout_is_inside, reader_is_old, pictures}
 
 abbrev reader : Slot
 reader = slot_at after_commit 0
