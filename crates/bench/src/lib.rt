@@ -14,6 +14,8 @@ use saying::{say_answer, say_front, say_value};
 use script::verbs::{
     ABORT, ARGS, BEGIN, COMMIT, CREATE, FRONT, LOOKUP, LOOKUP_ALL, READ, VACUUM, WRITE,
 };
+use std::io;
+use std::io::Write;
 use words::{CELL_WORDS, TxId, WIDTH};
 
 // What a line writes: a key, or none for `delete`.
@@ -25,38 +27,43 @@ fn value_of(verb: u64, args: &[u64; ARGS]) -> Value {
 }
 
 // The calls that need no buffer.
-fn call_plain(
+fn call_plain<W: Write>(
+    to: &mut W,
     meta: &mut [u64],
     heads: &mut [u64],
     cells: &mut [[u64; CELL_WORDS]],
     slots: &mut [[u64; WIDTH]],
     verb: u64,
     args: &[u64; ARGS],
-) {
+) -> io::Result<()> {
     let slot = args[0];
     let id = TxId(args[1]);
     let row = args[2];
     match verb {
-        CREATE => say_answer(store::create(meta, heads, cells, slots, args[0], args[1])),
-        BEGIN => say_answer(store::begin(meta, heads, cells, slots)),
-        READ => say_value(store::read(meta, heads, cells, slots, slot, id, row)),
-        COMMIT => say_answer(store::commit(meta, heads, cells, slots, slot, id)),
-        ABORT => say_answer(store::abort(meta, heads, cells, slots, slot, id)),
-        _ => say_answer(store::write(
-            meta,
-            heads,
-            cells,
-            slots,
-            slot,
-            id,
-            row,
-            value_of(verb, args),
-        )),
+        CREATE => say_answer(to, store::create(meta, heads, cells, slots, args[0], args[1])),
+        BEGIN => say_answer(to, store::begin(meta, heads, cells, slots)),
+        READ => say_value(to, store::read(meta, heads, cells, slots, slot, id, row)),
+        COMMIT => say_answer(to, store::commit(meta, heads, cells, slots, slot, id)),
+        ABORT => say_answer(to, store::abort(meta, heads, cells, slots, slot, id)),
+        _ => say_answer(
+            to,
+            store::write(
+                meta,
+                heads,
+                cells,
+                slots,
+                slot,
+                id,
+                row,
+                value_of(verb, args),
+            ),
+        ),
     }
 }
 
 // The calls over a buffer, and the others.
-fn call_lent(
+fn call_lent<W: Write>(
+    to: &mut W,
     meta: &mut [u64],
     heads: &mut [u64],
     cells: &mut [[u64; CELL_WORDS]],
@@ -66,24 +73,29 @@ fn call_lent(
     results: &mut [u64],
     verb: u64,
     args: &[u64; ARGS],
-) {
+) -> io::Result<()> {
     let slot = args[0];
     let id = TxId(args[1]);
     match verb {
-        VACUUM => say_answer(store::vacuum(meta, heads, cells, slots, args[0], args[1], reports)),
-        LOOKUP => say_answer(store::lookup(
+        VACUUM => say_answer(to, store::vacuum(meta, heads, cells, slots, args[0], args[1], reports)),
+        LOOKUP => say_answer(to, store::lookup(
             meta, heads, cells, slots, slot, id, args[2], wanted, results,
         )),
-        LOOKUP_ALL => say_answer(store::lookup_all(
+        LOOKUP_ALL => say_answer(to, store::lookup_all(
             meta, heads, cells, slots, slot, id, args[2], results,
         )),
-        FRONT => say_front(store::front(results, args[0])),
-        _ => call_plain(meta, heads, cells, slots, verb, args),
+        FRONT => say_front(to, store::front(results, args[0])),
+        _ => call_plain(to, meta, heads, cells, slots, verb, args),
     }
 }
 
 // The memory after a call on its arenas, each lent as far as the memory says.
-pub fn call(mem: &[u64; ALL], verb: u64, args: &[u64; ARGS]) -> [u64; ALL] {
+pub fn call<W: Write>(
+    to: &mut W,
+    mem: &[u64; ALL],
+    verb: u64,
+    args: &[u64; ARGS],
+) -> io::Result<[u64; ALL]> {
     let mut meta = list_of(mem, META);
     let mut heads = list_of(mem, HEADS);
     let mut cells = cells_of(mem);
@@ -92,6 +104,7 @@ pub fn call(mem: &[u64; ALL], verb: u64, args: &[u64; ARGS]) -> [u64; ALL] {
     let wanted = list_of(mem, WANTED);
     let mut results = list_of(mem, RESULTS);
     call_lent(
+        to,
         front_mut(&mut meta, mem[LENT_LISTS + META]),
         front_mut(&mut heads, mem[LENT_LISTS + HEADS]),
         cells_front(&mut cells, mem[LENT_CELLS]),
@@ -101,6 +114,8 @@ pub fn call(mem: &[u64; ALL], verb: u64, args: &[u64; ARGS]) -> [u64; ALL] {
         front_mut(&mut results, mem[LENT_LISTS + RESULTS]),
         verb,
         args,
-    );
-    with_arenas(mem, &meta, &heads, &results, &cells, &slots, &reports)
+    )?;
+    Ok(with_arenas(
+        mem, &meta, &heads, &results, &cells, &slots, &reports,
+    ))
 }

@@ -5,6 +5,8 @@ use handmade::memory::{
     ALL, CELLS, CELLS_AT, LISTS, META, REPORT_WORDS, REPORTS_AT, RESULTS, SLOTS, SLOTS_AT, WORDS,
 };
 use saying::{say, say_name, say_number};
+use std::io;
+use std::io::Write;
 use std::num::{wrapping_add_u64, wrapping_add_usize};
 use words::{ACTIVE, CELL_WORDS, READS, WIDTH, WRITES};
 
@@ -50,116 +52,115 @@ fn rise_of(c: Column) -> u64 {
 }
 
 // A word of a triple: of an entry or a record.
-fn say_triple(i: usize, names: &[u8]) {
-    say_number((i / 3) as u64);
-    say_name(names, i % 3);
+fn say_triple<W: Write>(to: &mut W, i: usize, names: &[u8]) -> io::Result<()> {
+    say_number(to, (i / 3) as u64)?;
+    say_name(to, names, i % 3)
 }
 
-fn say_slot_word(k: usize) {
+fn say_slot_word<W: Write>(to: &mut W, k: usize) -> io::Result<()> {
     if k <= ACTIVE {
-        say_name(b"id low top actives", k);
-        return;
+        return say_name(to, b"id low top actives", k);
     }
     if k < WRITES {
-        say(b" active");
-        say_number((k - ACTIVE - 1) as u64);
-        return;
+        say(to, b" active")?;
+        return say_number(to, (k - ACTIVE - 1) as u64);
     }
     if k == WRITES {
-        say(b" writes");
-        return;
+        return say(to, b" writes");
     }
     if k < READS {
-        say(b" entry");
-        say_triple(k - WRITES - 1, b"row base new");
-        return;
+        say(to, b" entry")?;
+        return say_triple(to, k - WRITES - 1, b"row base new");
     }
     if k == READS {
-        say(b" reads");
-        return;
+        return say(to, b" reads");
     }
-    say(b" record");
-    say_triple(k - READS - 1, b"row cell xmin");
+    say(to, b" record")?;
+    say_triple(to, k - READS - 1, b"row cell xmin")
 }
 
 // The arena, and the entry where the column is one.
-fn say_arena(c: Column) {
+fn say_arena<W: Write>(to: &mut W, c: Column) -> io::Result<()> {
     let of = c.of;
     let which = c.which;
-    say(b" ");
+    say(to, b" ")?;
     match of {
-        OF_LISTS => say_name(b"meta head result wanted lent", which),
-        OF_CELLS => say(b" cell"),
-        OF_REPORTS => say(b" report"),
+        OF_LISTS => say_name(to, b"meta head result wanted lent", which),
+        OF_CELLS => say(to, b" cell"),
+        OF_REPORTS => say(to, b" report"),
         _ => {
-            say(b" slot");
-            say_number(which as u64);
+            say(to, b" slot")?;
+            say_number(to, which as u64)
         }
     }
 }
 
 // The i-th of a column.
-fn say_place(c: Column, i: usize) {
+fn say_place<W: Write>(to: &mut W, c: Column, i: usize) -> io::Result<()> {
     let of = c.of;
     let which = c.which;
     if of == OF_SLOTS {
-        say_slot_word(i);
-        return;
+        return say_slot_word(to, i);
     }
     if of == OF_CELLS {
-        say_number(wrapping_add_u64(i as u64, 1));
-        return;
+        return say_number(to, wrapping_add_u64(i as u64, 1));
     }
     if of == OF_LISTS {
         if which == META {
-            say_name(b"rows cells clock free", i);
-            return;
+            return say_name(to, b"rows cells clock free", i);
         }
     }
-    say_number(i as u64);
+    say_number(to, i as u64)
 }
 
 // The word, where the column is one word of many entries.
-fn say_word(c: Column) {
+fn say_word<W: Write>(to: &mut W, c: Column) -> io::Result<()> {
     let of = c.of;
     let which = c.which;
     if of == OF_CELLS {
-        say_name(b"xmin xmax next keyed key locked owner link", which);
-        return;
+        return say_name(to, b"xmin xmax next keyed key locked owner link", which);
     }
     if of == OF_REPORTS {
-        say_name(b"cell keyed key", which);
+        return say_name(to, b"cell keyed key", which);
     }
+    Ok(())
 }
 
-fn say_run(c: Column, run: Run) {
+fn say_run<W: Write>(to: &mut W, c: Column, run: Run) -> io::Result<()> {
     let from = run.from;
     let end = run.end;
     if end <= from {
-        return;
+        return Ok(());
     }
     let more = end - from > 1;
-    say_arena(c);
-    say_place(c, from);
+    say_arena(to, c)?;
+    say_place(to, c, from)?;
     if more {
-        say(b" to");
-        say_place(c, end - 1);
+        say(to, b" to")?;
+        say_place(to, c, end - 1)?;
     }
-    say_word(c);
-    say(b" =");
-    say_number(run.value);
+    say_word(to, c)?;
+    say(to, b" =")?;
+    say_number(to, run.value)?;
     if more {
         if rise_of(c) > 0 {
-            say(b" and up");
+            say(to, b" and up")?;
         }
     }
-    say(b"\n");
+    say(to, b"\n")
 }
 
 // The run after the i-th word, that was `was` and is `is`: it goes on, or is told and another begins.
-fn run_after(c: Column, run: Run, i: usize, was: u64, is: u64) -> Run {
+fn run_after<W: Write>(
+    to: &mut W,
+    c: Column,
+    run: Run,
+    i: usize,
+    was: u64,
+    is: u64,
+) -> io::Result<Run> {
     if was == is {
-        return run;
+        return Ok(run);
     }
     let mut next = Run {
         from: i,
@@ -172,19 +173,24 @@ fn run_after(c: Column, run: Run, i: usize, was: u64, is: u64) -> Run {
             if is == wrapping_add_u64(run.last, rise_of(c)) {
                 next.from = run.from;
                 next.value = run.value;
-                return next;
+                return Ok(next);
             }
         }
     }
-    say_run(c, run);
-    next
+    say_run(to, c, run)?;
+    Ok(next)
 }
 
 fn word(mem: &[u64; ALL], at: usize) -> u64 {
     if at < ALL { mem[at] } else { 0 }
 }
 
-fn tell(before: &[u64; ALL], now: &[u64; ALL], c: Column) {
+fn tell<W: Write>(
+    to: &mut W,
+    before: &[u64; ALL],
+    now: &[u64; ALL],
+    c: Column,
+) -> io::Result<()> {
     let mut run = Run {
         from: 0,
         end: 0,
@@ -195,15 +201,16 @@ fn tell(before: &[u64; ALL], now: &[u64; ALL], c: Column) {
     let count = c.count;
     let mut i = 0;
     while i < count {
-        run = run_after(c, run, i, word(before, at), word(now, at));
+        run = run_after(to, c, run, i, word(before, at), word(now, at))?;
         at = wrapping_add_usize(at, c.step);
         i += 1;
     }
-    say_run(c, run);
+    say_run(to, c, run)
 }
 
 // So many columns of an arena, each so far after the one before.
-fn tell_columns(
+fn tell_columns<W: Write>(
+    to: &mut W,
     before: &[u64; ALL],
     now: &[u64; ALL],
     of: u64,
@@ -212,11 +219,12 @@ fn tell_columns(
     apart: usize,
     count: usize,
     step: usize,
-) {
+) -> io::Result<()> {
     let mut first = from;
     let mut which = 0;
     while which < columns {
         tell(
+            to,
             before,
             now,
             Column {
@@ -226,20 +234,26 @@ fn tell_columns(
                 step,
                 count,
             },
-        );
+        )?;
         first = wrapping_add_usize(first, apart);
         which += 1;
     }
+    Ok(())
 }
 
 // Every word that is not as it was: lists and slots one by one, cells and reports word by word.
-pub fn tell_changes(before: &[u64; ALL], now: &[u64; ALL]) {
-    tell_columns(before, now, OF_LISTS, 0, LISTS, WORDS, WORDS, 1);
+pub fn tell_changes<W: Write>(
+    to: &mut W,
+    before: &[u64; ALL],
+    now: &[u64; ALL],
+) -> io::Result<()> {
+    tell_columns(to, before, now, OF_LISTS, 0, LISTS, WORDS, WORDS, 1)?;
     tell_columns(
-        before, now, OF_CELLS, CELLS_AT, CELL_WORDS, 1, CELLS, CELL_WORDS,
-    );
-    tell_columns(before, now, OF_SLOTS, SLOTS_AT, SLOTS, WIDTH, WIDTH, 1);
+        to, before, now, OF_CELLS, CELLS_AT, CELL_WORDS, 1, CELLS, CELL_WORDS,
+    )?;
+    tell_columns(to, before, now, OF_SLOTS, SLOTS_AT, SLOTS, WIDTH, WIDTH, 1)?;
     tell_columns(
+        to,
         before,
         now,
         OF_REPORTS,
@@ -248,5 +262,5 @@ pub fn tell_changes(before: &[u64; ALL], now: &[u64; ALL]) {
         1,
         CELLS,
         REPORT_WORDS,
-    );
+    )
 }

@@ -8,64 +8,76 @@ use handmade::poke;
 use saying::say;
 use script::text::{BLANK, LINE_END, after, part, upto};
 use script::verbs::{ARGS, CASE, FIRST_CALL, MEMORY, numbers, verb_of};
+use std::io;
+use std::io::Write;
 
 // The call, and what it changed.
-fn act(mem: &mut [u64; ALL], verb: u64, args: &[u64; ARGS]) {
-    let now = call(mem, verb, args);
-    say(b"\n");
-    tell_changes(mem, &now);
+fn act<W: Write>(
+    to: &mut W,
+    mem: &mut [u64; ALL],
+    verb: u64,
+    args: &[u64; ARGS],
+) -> io::Result<()> {
+    let now = call(to, mem, verb, args)?;
+    say(to, b"\n")?;
+    tell_changes(to, mem, &now)?;
     *mem = now;
+    Ok(())
 }
 
-fn carry_out(mem: &mut [u64; ALL], s: &[u8], verb: u64, from: usize) {
+fn carry_out<W: Write>(
+    to: &mut W,
+    mem: &mut [u64; ALL],
+    s: &[u8],
+    verb: u64,
+    from: usize,
+) -> io::Result<()> {
     let mut args = [0; ARGS];
     let n = numbers(s, from, verb, &mut args);
     if n > ARGS {
-        say(b"? not understood: ");
-        say(s);
-        say(b"\n");
-        return;
+        say(to, b"? not understood: ")?;
+        say(to, s)?;
+        return say(to, b"\n");
     }
     if verb == MEMORY {
         fill(mem, args[0], args[1]);
-        return;
+        return Ok(());
     }
     if verb < FIRST_CALL {
-        poke(mem, verb, &args, n);
-        return;
+        return poke(to, mem, verb, &args, n);
     }
-    say(s);
-    say(b": ");
-    act(mem, verb, &args);
+    say(to, s)?;
+    say(to, b": ")?;
+    act(to, mem, verb, &args)
 }
 
-fn line(mem: &mut [u64; ALL], s: &[u8]) {
+fn line<W: Write>(to: &mut W, mem: &mut [u64; ALL], s: &[u8]) -> io::Result<()> {
     let end = upto(s, 0, BLANK);
     match verb_of(part(s, 0, end)) {
-        Number::Nothing => say(b"?\n"),
+        Number::Nothing => say(to, b"?\n"),
         Number::Is(verb) => {
             if verb == CASE {
-                say(s);
-                say(b"\n");
-                return;
+                say(to, s)?;
+                return say(to, b"\n");
             }
-            carry_out(mem, s, verb, after(s, end));
+            carry_out(to, mem, s, verb, after(s, end))
         }
     }
 }
 
 // Every line of a script, on memory that is all 0 at first.
-pub fn run(script: &[u8]) {
+pub fn run<W: Write>(to: &mut W, script: &[u8]) -> io::Result<()> {
     let mut mem = [0; ALL];
     let mut at = 0;
     let mut left = script.len();
     while left > 0 {
         left -= 1;
         if at >= script.len() {
-            return;
+            return Ok(());
         }
         let end = upto(script, at, LINE_END);
-        line(&mut mem, part(script, at, end));
+        line(to, &mut mem, part(script, at, end))?;
         at = after(script, end);
     }
+    Ok(())
 }

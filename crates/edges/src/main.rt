@@ -5,25 +5,41 @@
 mod lines;
 
 use saying::{say, say_number};
+use std::io;
+use std::io::Read;
 
 const LONGEST: usize = 400000;
 
-// Is there more to read?
-fn is_more() -> bool {
-    let mut next = [0u8; 1];
-    io::read_full(0, &mut next) > 0
+// Reads until `into` is full or the input ends; how many bytes it put at the front.
+fn read_full<R: Read>(from: &mut R, into: &mut [u8]) -> io::Result<usize> {
+    let mut done = 0;
+    while done < into.len() {
+        let n = from.read(&mut into[done..])?;
+        if n == 0 {
+            break;
+        }
+        done += n;
+    }
+    Ok(done)
 }
 
-fn main() {
+// Is there more to read?
+fn is_more<R: Read>(from: &mut R) -> io::Result<bool> {
+    let mut next = [0u8; 1];
+    Ok(read_full(from, &mut next)? > 0)
+}
+
+fn main(rt: HostRuntime) -> io::Result<()> {
+    let mut input = rt.stdin();
+    let mut output = rt.stdout();
     let mut script = [0u8; LONGEST];
-    let n = io::read_full(0, &mut script);
+    let n = read_full(&mut input, &mut script)?;
     if n == LONGEST {
-        if is_more() {
-            say(b"? the script is longer than");
-            say_number(LONGEST as u64);
-            say(b" bytes\n");
-            return;
+        if is_more(&mut input)? {
+            say(&mut output, b"? the script is longer than")?;
+            say_number(&mut output, LONGEST as u64)?;
+            return say(&mut output, b" bytes\n");
         }
     }
-    lines::run(&script[..n]);
+    lines::run(&mut output, &script[..n])
 }

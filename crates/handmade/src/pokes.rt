@@ -7,6 +7,8 @@ use script::verbs::{
     ARGS, CELL, ENTRY, FIRST_LIST, FIRST_SERIES, HEAD, LEND, MANY_CELLS, MANY_ENTRIES, MANY_HEADS,
     MANY_SLOTS, MANY_WANTED, NAMED_META, OPEN, RECORD, SLOT, WANT,
 };
+use std::io;
+use std::io::Write;
 use std::num::{wrapping_add_u64, wrapping_sub_u64};
 use words::{CELL_WORDS, LAST_ID, READS, WIDTH, WRITES};
 
@@ -68,52 +70,77 @@ impl Spot {
 }
 
 // A word that the memory does not have is told.
-fn put(mem: &mut [u64; ALL], spot: Spot, v: u64) {
+fn put<W: Write>(to: &mut W, mem: &mut [u64; ALL], spot: Spot, v: u64) -> io::Result<()> {
     let at = spot.place();
     if at >= ALL {
-        say(b"? no such word\n");
-        return;
+        return say(to, b"? no such word\n");
     }
     mem[at] = v;
+    Ok(())
 }
 
 // Words named one by one, each with its value.
-fn put_named(mem: &mut [u64; ALL], entry: Spot, args: &[u64; ARGS], from: usize, to: usize) {
+fn put_named<W: Write>(
+    to: &mut W,
+    mem: &mut [u64; ALL],
+    entry: Spot,
+    args: &[u64; ARGS],
+    from: usize,
+    end: usize,
+) -> io::Result<()> {
     let mut i = from;
-    while i < to {
+    while i < end {
         if i + 1 >= ARGS {
-            return;
+            return Ok(());
         }
-        put(mem, entry.on(spot_of(0, 0, args[i])), args[i + 1]);
+        put(to, mem, entry.on(spot_of(0, 0, args[i])), args[i + 1])?;
         i += 2;
     }
+    Ok(())
 }
 
 // Words side by side.
-fn put_row(mem: &mut [u64; ALL], first: Spot, args: &[u64; ARGS], from: usize, to: usize) {
+fn put_row<W: Write>(
+    to: &mut W,
+    mem: &mut [u64; ALL],
+    first: Spot,
+    args: &[u64; ARGS],
+    from: usize,
+    end: usize,
+) -> io::Result<()> {
     let mut at = first;
     let mut i = from;
-    while i < to {
+    while i < end {
         if i >= ARGS {
-            return;
+            return Ok(());
         }
-        put(mem, at, args[i]);
+        put(to, mem, at, args[i])?;
         at = at.on(spot_of(0, 0, 1));
         i += 1;
     }
+    Ok(())
 }
 
 // A series: so many words, the next one a step on, its value `rise` more.
-fn put_series(mem: &mut [u64; ALL], first: Spot, step: Spot, count: usize, value: u64, rise: u64) {
+fn put_series<W: Write>(
+    to: &mut W,
+    mem: &mut [u64; ALL],
+    first: Spot,
+    step: Spot,
+    count: usize,
+    value: u64,
+    rise: u64,
+) -> io::Result<()> {
     let mut at = first;
     let mut v = value;
     let mut left = count;
     while left > 0 {
-        put(mem, at, v);
+        put(to, mem, at, v)?;
         at = at.on(step);
         v = wrapping_add_u64(v, rise);
         left -= 1;
     }
+    Ok(())
 }
 
 // A word of the i-th of the triples that start at a place.
@@ -162,30 +189,34 @@ fn places(verb: u64) -> usize {
 }
 
 // Memory made by hand, as a line with n numbers says. A series ends with how many, the first value and the rise.
-pub fn poke(mem: &mut [u64; ALL], verb: u64, args: &[u64; ARGS], n: usize) {
+pub fn poke<W: Write>(
+    to: &mut W,
+    mem: &mut [u64; ALL],
+    verb: u64,
+    args: &[u64; ARGS],
+    n: usize,
+) -> io::Result<()> {
     let at = first(verb, args);
     if verb < FIRST_LIST {
-        put_named(mem, at, args, places(verb), n);
-        return;
+        return put_named(to, mem, at, args, places(verb), n);
     }
     if verb < FIRST_SERIES {
-        put_row(mem, at, args, places(verb), n);
-        return;
+        return put_row(to, mem, at, args, places(verb), n);
     }
     if n < 3 {
-        say(b"? not enough numbers\n");
-        return;
+        return say(to, b"? not enough numbers\n");
     }
     if n > ARGS {
-        return;
+        return Ok(());
     }
     let count = cut(args[n - 3], CELLS);
     put_series(
+        to,
         mem,
         at,
         step_of_series(verb),
         count,
         args[n - 2],
         args[n - 1],
-    );
+    )
 }

@@ -3,20 +3,20 @@
 #![tactic(auto)]
 
 use kinds::{Cell, Version};
-use libc::STDOUT_FILENO;
+use std::io;
+use std::io::Write;
 use words::{ACTIVE, ID, LAST_ID, LOW, SLOTS, TOP, TxId, WIDTH};
 
-fn say(b: bool) {
+fn say<W: Write>(to: &mut W, b: bool) -> io::Result<()> {
     if b {
-        io::write_all(STDOUT_FILENO, b"yes\n");
+        to.write_all(b"yes\n")
     } else {
-        io::write_all(STDOUT_FILENO, b"no\n");
+        to.write_all(b"no\n")
     }
 }
 
-fn say_number(n: u64) {
-    io::print_decimal(STDOUT_FILENO, n);
-    io::write_all(STDOUT_FILENO, b"\n");
+fn say_number<W: Write>(to: &mut W, n: u64) -> io::Result<()> {
+    writeln!(to, "{n}")
 }
 
 fn version(xmin: u64, xmax: u64) -> Version {
@@ -41,97 +41,83 @@ fn set_reader(slot: &mut [u64; WIDTH]) {
     slot[ACTIVE + 2] = 6;
 }
 
-fn worked_versions(slot: &[u64; WIDTH]) {
-    io::write_all(STDOUT_FILENO, b"seen\n");
-    say(version(5, 0).is_visible(slot));
-    say(version(6, 0).is_visible(slot));
-    say(version(5, 4).is_visible(slot));
-    say(version(3, 7).is_visible(slot));
-    io::write_all(STDOUT_FILENO, b"not seen\n");
-    say(version(4, 0).is_visible(slot));
-    say(version(7, 0).is_visible(slot));
-    say(version(3, 5).is_visible(slot));
-    say(version(3, 6).is_visible(slot));
-    say(version(0, 0).is_visible(slot));
-    io::write_all(
-        STDOUT_FILENO,
-        b"own, superseded by own or by a committed id: not seen\n",
-    );
-    say(version(6, 6).is_visible(slot));
-    say(version(6, 5).is_visible(slot));
+fn worked_versions<W: Write>(to: &mut W, slot: &[u64; WIDTH]) -> io::Result<()> {
+    to.write_all(b"seen\n")?;
+    say(to, version(5, 0).is_visible(slot))?;
+    say(to, version(6, 0).is_visible(slot))?;
+    say(to, version(5, 4).is_visible(slot))?;
+    say(to, version(3, 7).is_visible(slot))?;
+    to.write_all(b"not seen\n")?;
+    say(to, version(4, 0).is_visible(slot))?;
+    say(to, version(7, 0).is_visible(slot))?;
+    say(to, version(3, 5).is_visible(slot))?;
+    say(to, version(3, 6).is_visible(slot))?;
+    say(to, version(0, 0).is_visible(slot))?;
+    to.write_all(b"own, superseded by own or by a committed id: not seen\n")?;
+    say(to, version(6, 6).is_visible(slot))?;
+    say(to, version(6, 5).is_visible(slot))
 }
 
 // "horizon 5 with xmax 4 reclaimable, 5 and 0 not"
-fn worked_reclaiming() {
-    io::write_all(
-        STDOUT_FILENO,
-        b"reclaimable at horizon 5: xmax 4, 5, 0, and 4 with a lock flag of 7\n",
-    );
-    say(version(1, 4).is_reclaimable(5));
-    say(version(1, 5).is_reclaimable(5));
-    say(version(1, 0).is_reclaimable(5));
+fn worked_reclaiming<W: Write>(to: &mut W) -> io::Result<()> {
+    to.write_all(b"reclaimable at horizon 5: xmax 4, 5, 0, and 4 with a lock flag of 7\n")?;
+    say(to, version(1, 4).is_reclaimable(5))?;
+    say(to, version(1, 5).is_reclaimable(5))?;
+    say(to, version(1, 0).is_reclaimable(5))?;
     let mut held = version(1, 4);
     held.locked = 7;
-    say(held.is_reclaimable(5));
+    say(to, held.is_reclaimable(5))
 }
 
-fn say_snapshot(slots: &[[u64; WIDTH]; SLOTS], clock: u64) {
+fn say_snapshot<W: Write>(to: &mut W, slots: &[[u64; WIDTH]; SLOTS], clock: u64) -> io::Result<()> {
     let s = slots::snapshot_of(slots, clock);
-    say_number(s.low);
-    say_number(s.top);
+    say_number(to, s.low)?;
+    say_number(to, s.top)
 }
 
-fn worked_snapshots(slots: &mut [[u64; WIDTH]; SLOTS]) {
-    io::write_all(STDOUT_FILENO, b"snapshot of no slot, clock 9\n");
-    say_snapshot(slots, 9);
-    io::write_all(STDOUT_FILENO, b"slots 4 and 7, clock 9\n");
+fn worked_snapshots<W: Write>(to: &mut W, slots: &mut [[u64; WIDTH]; SLOTS]) -> io::Result<()> {
+    to.write_all(b"snapshot of no slot, clock 9\n")?;
+    say_snapshot(to, slots, 9)?;
+    to.write_all(b"slots 4 and 7, clock 9\n")?;
     slots[1][ID] = 4;
     slots[3][ID] = 7;
-    say_snapshot(slots, 9);
-    io::write_all(STDOUT_FILENO, b"slots 4 and 12, clock 9\n");
+    say_snapshot(to, slots, 9)?;
+    to.write_all(b"slots 4 and 12, clock 9\n")?;
     slots[3][ID] = 12;
-    say_snapshot(slots, 9);
-    io::write_all(STDOUT_FILENO, b"slots 4 and the last id, clock 9\n");
+    say_snapshot(to, slots, 9)?;
+    to.write_all(b"slots 4 and the last id, clock 9\n")?;
     slots[3][ID] = LAST_ID;
-    say_snapshot(slots, 9);
-    io::write_all(
-        STDOUT_FILENO,
-        b"lowest empty slot: 0, then 2 where 0 and 1 are taken\n",
-    );
-    say_number(slots::lowest_empty(slots) as u64);
+    say_snapshot(to, slots, 9)?;
+    to.write_all(b"lowest empty slot: 0, then 2 where 0 and 1 are taken\n")?;
+    say_number(to, slots::lowest_empty(slots) as u64)?;
     slots[0][ID] = 1;
-    say_number(slots::lowest_empty(slots) as u64);
+    say_number(to, slots::lowest_empty(slots) as u64)
 }
 
 // Slot 1 is open with snapshot xmin 7; slot 2 is empty, its rubbish 3 counts for nothing.
-fn worked_horizons(slots: &mut [[u64; WIDTH]; SLOTS]) {
-    io::write_all(STDOUT_FILENO, b"horizon: request 5, clock 9, xmin 7\n");
+fn worked_horizons<W: Write>(to: &mut W, slots: &mut [[u64; WIDTH]; SLOTS]) -> io::Result<()> {
+    to.write_all(b"horizon: request 5, clock 9, xmin 7\n")?;
     slots[1][ID] = 8;
     slots[1][LOW] = 7;
     slots[2][LOW] = 3;
-    say_number(slots::horizon(slots, 9, 5));
-    io::write_all(
-        STDOUT_FILENO,
-        b"request the last id; clock 6 and the same\n",
-    );
-    say_number(slots::horizon(slots, 9, LAST_ID));
-    say_number(slots::horizon(slots, 6, LAST_ID));
-    io::write_all(
-        STDOUT_FILENO,
-        b"an older reader of xmin 2 under a later id\n",
-    );
+    say_number(to, slots::horizon(slots, 9, 5))?;
+    to.write_all(b"request the last id; clock 6 and the same\n")?;
+    say_number(to, slots::horizon(slots, 9, LAST_ID))?;
+    say_number(to, slots::horizon(slots, 6, LAST_ID))?;
+    to.write_all(b"an older reader of xmin 2 under a later id\n")?;
     slots[4][ID] = 9;
     slots[4][LOW] = 2;
-    say_number(slots::horizon(slots, 20, LAST_ID));
+    say_number(to, slots::horizon(slots, 20, LAST_ID))
 }
 
-fn main() {
+fn main(rt: HostRuntime) -> io::Result<()> {
+    let mut output = rt.stdout();
     let mut slot = [0; WIDTH];
     set_reader(&mut slot);
-    worked_versions(&slot);
-    worked_reclaiming();
+    worked_versions(&mut output, &slot)?;
+    worked_reclaiming(&mut output)?;
     let mut some = [[0; WIDTH]; SLOTS];
-    worked_snapshots(&mut some);
+    worked_snapshots(&mut output, &mut some)?;
     let mut others = [[0; WIDTH]; SLOTS];
-    worked_horizons(&mut others);
+    worked_horizons(&mut output, &mut others)
 }

@@ -1,12 +1,22 @@
 // The replay program again, run on empty input: no line.
 #![tactic(auto)]
 
+use std::io;
 use words::{CELL_WORDS, META_WORDS, SLOTS, WIDTH};
 
-fn main() {
+fn main(rt: HostRuntime) -> io::Result<()> {
+    let mut input = rt.stdin();
+    let mut output = rt.stdout();
     let mut meta = [0u64; META_WORDS];
     let mut rows = [0u64; player::ROWS];
     let mut cells = [[0u64; CELL_WORDS]; player::CELLS];
     let mut slots = [[0u64; WIDTH]; SLOTS];
-    player::play(&mut meta, &mut rows, &mut cells, &mut slots);
+    player::play(
+        &mut input,
+        &mut output,
+        &mut meta,
+        &mut rows,
+        &mut cells,
+        &mut slots,
+    )
 }

@@ -1,86 +1,85 @@
-// What the bench says: a text, a number, a name, and the answer of a call in words.
+// What the bench says: a text, a number, a name, and the answer of a call in words. Where it says it is the caller's.
 #![tactic(auto)]
 
 use kinds::{Answer, ReadAnswer};
-use libc::STDOUT_FILENO;
 use script::text::{BLANK, after, part, upto};
+use std::io;
+use std::io::Write;
 
-pub fn say(text: &[u8]) {
-    io::write_all(STDOUT_FILENO, text);
+pub fn say<W: Write>(to: &mut W, text: &[u8]) -> io::Result<()> {
+    to.write_all(text)
 }
 
 // A blank and a number.
-pub fn say_number(n: u64) {
-    say(b" ");
-    io::print_decimal(STDOUT_FILENO, n);
+pub fn say_number<W: Write>(to: &mut W, n: u64) -> io::Result<()> {
+    write!(to, " {n}")
 }
 
 // A blank and the name with a number in a list of names.
-pub fn say_name(names: &[u8], number: usize) {
+pub fn say_name<W: Write>(to: &mut W, names: &[u8], number: usize) -> io::Result<()> {
     let mut at = 0;
     let mut left = number;
     while left > 0 {
         at = after(names, upto(names, at, BLANK));
         left -= 1;
     }
-    say(b" ");
-    say(part(names, at, upto(names, at, BLANK)));
+    say(to, b" ")?;
+    say(to, part(names, at, upto(names, at, BLANK)))
 }
 
 // A refusal: its number and what it returns, 0 where the paper has it return nothing.
-fn say_refused(number: u64, value: u64) {
-    say(b"refused");
-    say_number(number);
-    say_number(value);
+fn say_refused<W: Write>(to: &mut W, number: u64, value: u64) -> io::Result<()> {
+    say(to, b"refused")?;
+    say_number(to, number)?;
+    say_number(to, value)
 }
 
-pub fn say_value(a: ReadAnswer) {
+pub fn say_value<W: Write>(to: &mut W, a: ReadAnswer) -> io::Result<()> {
     match a {
-        ReadAnswer::None => say(b"none"),
-        ReadAnswer::Empty => say(b"empty"),
+        ReadAnswer::None => say(to, b"none"),
+        ReadAnswer::Empty => say(to, b"empty"),
         ReadAnswer::Key(k) => {
-            say(b"key");
-            say_number(k);
+            say(to, b"key")?;
+            say_number(to, k)
         }
-        ReadAnswer::Refused { number, value } => say_refused(number, value),
+        ReadAnswer::Refused { number, value } => say_refused(to, number, value),
     }
 }
 
-pub fn say_answer(a: Answer) {
+pub fn say_answer<W: Write>(to: &mut W, a: Answer) -> io::Result<()> {
     match a {
-        Answer::Done => say(b"ok"),
+        Answer::Done => say(to, b"ok"),
         Answer::Begun { slot, id } => {
-            say(b"slot");
-            say_number(slot);
-            say(b" id");
-            say_number(id.0);
+            say(to, b"slot")?;
+            say_number(to, slot)?;
+            say(to, b" id")?;
+            say_number(to, id.0)
         }
         Answer::Wrote(c) => {
-            say(b"cell");
-            say_number(c.0);
+            say(to, b"cell")?;
+            say_number(to, c.0)
         }
         Answer::Vacuumed { count, live } => {
-            say(b"vacuumed");
-            say_number(count);
-            say(b" live ");
-            say_value(live);
+            say(to, b"vacuumed")?;
+            say_number(to, count)?;
+            say(to, b" live ")?;
+            say_value(to, live)
         }
         Answer::Listed(n) => {
-            say(b"listed");
-            say_number(n);
+            say(to, b"listed")?;
+            say_number(to, n)
         }
-        Answer::Refused { number, value } => say_refused(number, value),
+        Answer::Refused { number, value } => say_refused(to, number, value),
     }
 }
 
 // The entries of a buffer's front.
-pub fn say_front(front: &[u64]) {
-    say(b"front of");
-    say_number(front.len() as u64);
-    say(b":");
-    let mut i = 0;
-    while i < front.len() {
-        say_number(front[i]);
-        i += 1;
+pub fn say_front<W: Write>(to: &mut W, front: &[u64]) -> io::Result<()> {
+    say(to, b"front of")?;
+    say_number(to, front.len() as u64)?;
+    say(to, b":")?;
+    for n in front {
+        say_number(to, *n)?;
     }
+    Ok(())
 }
