@@ -40,7 +40,10 @@ fn call_plain<W: Write>(
     let id = TxId(args[1]);
     let row = args[2];
     match verb {
-        CREATE => say_answer(to, store::create(meta, heads, cells, slots, args[0], args[1])),
+        CREATE => say_answer(
+            to,
+            store::create(meta, heads, cells, slots, args[0], args[1]),
+        ),
         BEGIN => say_answer(to, store::begin(meta, heads, cells, slots)),
         READ => say_value(to, store::read(meta, heads, cells, slots, slot, id, row)),
         COMMIT => say_answer(to, store::commit(meta, heads, cells, slots, slot, id)),
@@ -77,13 +80,20 @@ fn call_lent<W: Write>(
     let slot = args[0];
     let id = TxId(args[1]);
     match verb {
-        VACUUM => say_answer(to, store::vacuum(meta, heads, cells, slots, args[0], args[1], reports)),
-        LOOKUP => say_answer(to, store::lookup(
-            meta, heads, cells, slots, slot, id, args[2], wanted, results,
-        )),
-        LOOKUP_ALL => say_answer(to, store::lookup_all(
-            meta, heads, cells, slots, slot, id, args[2], results,
-        )),
+        VACUUM => say_answer(
+            to,
+            store::vacuum(meta, heads, cells, slots, args[0], args[1], reports),
+        ),
+        LOOKUP => say_answer(
+            to,
+            store::lookup(
+                meta, heads, cells, slots, slot, id, args[2], wanted, results,
+            ),
+        ),
+        LOOKUP_ALL => say_answer(
+            to,
+            store::lookup_all(meta, heads, cells, slots, slot, id, args[2], results),
+        ),
         FRONT => say_front(to, store::front(results, args[0])),
         _ => call_plain(to, meta, heads, cells, slots, verb, args),
     }
@@ -115,7 +125,5 @@ pub fn call<W: Write>(
         verb,
         args,
     )?;
-    Ok(with_arenas(
-        mem, &meta, &heads, &results, &cells, &slots, &reports,
-    ))
+    Ok(with_arenas(mem, &meta, &heads, &results, &cells, &slots, &reports))
 }

@@ -185,12 +185,7 @@ fn word(mem: &[u64; ALL], at: usize) -> u64 {
     if at < ALL { mem[at] } else { 0 }
 }
 
-fn tell<W: Write>(
-    to: &mut W,
-    before: &[u64; ALL],
-    now: &[u64; ALL],
-    c: Column,
-) -> io::Result<()> {
+fn tell<W: Write>(to: &mut W, before: &[u64; ALL], now: &[u64; ALL], c: Column) -> io::Result<()> {
     let mut run = Run {
         from: 0,
         end: 0,
@@ -242,11 +237,7 @@ fn tell_columns<W: Write>(
 }
 
 // Every word that is not as it was: lists and slots one by one, cells and reports word by word.
-pub fn tell_changes<W: Write>(
-    to: &mut W,
-    before: &[u64; ALL],
-    now: &[u64; ALL],
-) -> io::Result<()> {
+pub fn tell_changes<W: Write>(to: &mut W, before: &[u64; ALL], now: &[u64; ALL]) -> io::Result<()> {
     tell_columns(to, before, now, OF_LISTS, 0, LISTS, WORDS, WORDS, 1)?;
     tell_columns(
         to, before, now, OF_CELLS, CELLS_AT, CELL_WORDS, 1, CELLS, CELL_WORDS,
