@@ -193,12 +193,9 @@ fn tell<W: Write>(to: &mut W, before: &[u64; ALL], now: &[u64; ALL], c: Column) 
         last: 0,
     };
     let mut at = c.first;
-    let count = c.count;
-    let mut i = 0;
-    while i < count {
+    for i in 0..c.count {
         run = run_after(to, c, run, i, word(before, at), word(now, at))?;
         at = wrapping_add_usize(at, c.step);
-        i += 1;
     }
     say_run(to, c, run)
 }
@@ -216,8 +213,7 @@ fn tell_columns<W: Write>(
     step: usize,
 ) -> io::Result<()> {
     let mut first = from;
-    let mut which = 0;
-    while which < columns {
+    for which in 0..columns {
         tell(
             to,
             before,
@@ -231,7 +227,6 @@ fn tell_columns<W: Write>(
             },
         )?;
         first = wrapping_add_usize(first, apart);
-        which += 1;
     }
     Ok(())
 }

@@ -69,9 +69,7 @@ fn line<W: Write>(to: &mut W, mem: &mut [u64; ALL], s: &[u8]) -> io::Result<()> 
 pub fn run<W: Write>(to: &mut W, script: &[u8]) -> io::Result<()> {
     let mut mem = [0; ALL];
     let mut at = 0;
-    let mut left = script.len();
-    while left > 0 {
-        left -= 1;
+    for _ in 0..script.len() {
         if at >= script.len() {
             return Ok(());
         }

@@ -53,13 +53,11 @@ pub fn cut(x: u64, most: usize) -> usize
 
 // The words of an arena up to the end of what is lent become `x`, the others `y`.
 fn fill_arena(mem: &mut [u64; ALL], from: usize, lent: usize, end: usize, x: u64, y: u64) {
-    let mut at = from;
-    while at < end {
+    for at in from..end {
         if at >= ALL {
             return;
         }
         mem[at] = if at < lent { x } else { y };
-        at += 1;
     }
 }
 

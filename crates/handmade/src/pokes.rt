@@ -109,14 +109,12 @@ fn put_row<W: Write>(
     end: usize,
 ) -> io::Result<()> {
     let mut at = first;
-    let mut i = from;
-    while i < end {
+    for i in from..end {
         if i >= ARGS {
             return Ok(());
         }
         put(to, mem, at, args[i])?;
         at = at.on(spot_of(0, 0, 1));
-        i += 1;
     }
     Ok(())
 }
@@ -133,12 +131,10 @@ fn put_series<W: Write>(
 ) -> io::Result<()> {
     let mut at = first;
     let mut v = value;
-    let mut left = count;
-    while left > 0 {
+    for _ in 0..count {
         put(to, mem, at, v)?;
         at = at.on(step);
         v = wrapping_add_u64(v, rise);
-        left -= 1;
     }
     Ok(())
 }

@@ -13,11 +13,8 @@ pub fn list_of(mem: &[u64; ALL], list: usize) -> [u64; WORDS] {
     if list >= LISTS {
         return words;
     }
-    let n = WORDS;
-    let mut i = 0;
-    while i < n {
+    for i in 0..WORDS {
         words[i] = mem[list * WORDS + i];
-        i += 1;
     }
     words
 }
@@ -26,71 +23,50 @@ fn put_list(mem: &mut [u64; ALL], list: usize, words: &[u64; WORDS]) {
     if list >= LISTS {
         return;
     }
-    let n = WORDS;
-    let mut i = 0;
-    while i < n {
+    for i in 0..WORDS {
         mem[list * WORDS + i] = words[i];
-        i += 1;
     }
 }
 
 pub fn cells_of(mem: &[u64; ALL]) -> [[u64; CELL_WORDS]; CELLS] {
     let mut cells = [[0; CELL_WORDS]; CELLS];
-    let n = CELLS * CELL_WORDS;
-    let mut i = 0;
-    while i < n {
+    for i in 0..CELLS * CELL_WORDS {
         cells[i / CELL_WORDS][i % CELL_WORDS] = mem[CELLS_AT + i];
-        i += 1;
     }
     cells
 }
 
 fn put_cells(mem: &mut [u64; ALL], cells: &[[u64; CELL_WORDS]; CELLS]) {
-    let n = CELLS * CELL_WORDS;
-    let mut i = 0;
-    while i < n {
+    for i in 0..CELLS * CELL_WORDS {
         mem[CELLS_AT + i] = cells[i / CELL_WORDS][i % CELL_WORDS];
-        i += 1;
     }
 }
 
 pub fn slots_of(mem: &[u64; ALL]) -> [[u64; WIDTH]; SLOTS] {
     let mut slots = [[0; WIDTH]; SLOTS];
-    let n = SLOTS * WIDTH;
-    let mut i = 0;
-    while i < n {
+    for i in 0..SLOTS * WIDTH {
         slots[i / WIDTH][i % WIDTH] = mem[SLOTS_AT + i];
-        i += 1;
     }
     slots
 }
 
 fn put_slots(mem: &mut [u64; ALL], slots: &[[u64; WIDTH]; SLOTS]) {
-    let n = SLOTS * WIDTH;
-    let mut i = 0;
-    while i < n {
+    for i in 0..SLOTS * WIDTH {
         mem[SLOTS_AT + i] = slots[i / WIDTH][i % WIDTH];
-        i += 1;
     }
 }
 
 pub fn reports_of(mem: &[u64; ALL]) -> [[u64; REPORT_WORDS]; CELLS] {
     let mut reports = [[0; REPORT_WORDS]; CELLS];
-    let n = CELLS * REPORT_WORDS;
-    let mut i = 0;
-    while i < n {
+    for i in 0..CELLS * REPORT_WORDS {
         reports[i / REPORT_WORDS][i % REPORT_WORDS] = mem[REPORTS_AT + i];
-        i += 1;
     }
     reports
 }
 
 fn put_reports(mem: &mut [u64; ALL], reports: &[[u64; REPORT_WORDS]; CELLS]) {
-    let n = CELLS * REPORT_WORDS;
-    let mut i = 0;
-    while i < n {
+    for i in 0..CELLS * REPORT_WORDS {
         mem[REPORTS_AT + i] = reports[i / REPORT_WORDS][i % REPORT_WORDS];
-        i += 1;
     }
 }
 

@@ -18,10 +18,8 @@ pub fn say_number<W: Write>(to: &mut W, n: u64) -> io::Result<()> {
 // A blank and the name with a number in a list of names.
 pub fn say_name<W: Write>(to: &mut W, names: &[u8], number: usize) -> io::Result<()> {
     let mut at = 0;
-    let mut left = number;
-    while left > 0 {
+    for _ in 0..number {
         at = after(names, upto(names, at, BLANK));
-        left -= 1;
     }
     say(to, b" ")?;
     say(to, part(names, at, upto(names, at, BLANK)))

@@ -11,12 +11,10 @@ pub const LINE_END: u8 = 10;
 pub fn upto(s: &[u8], from: usize, end: u8) -> usize
     ensures { result ≤ length s.now }
 {
-    let mut i = from;
-    while i < s.len() {
+    for i in from..s.len() {
         if s[i] == end {
             return i;
         }
-        i += 1;
     }
     s.len()
 }
@@ -41,12 +39,10 @@ pub fn same(a: &[u8], b: &[u8]) -> bool {
     if a.len() != b.len() {
         return false;
     }
-    let mut i = 0;
-    while i < a.len() {
+    for i in 0..a.len() {
         if a[i] != b[i] {
             return false;
         }
-        i += 1;
     }
     true
 }
@@ -54,8 +50,7 @@ pub fn same(a: &[u8], b: &[u8]) -> bool {
 // The number of a name in a list of names, the first is 0.
 pub fn place(name: &[u8], names: &[u8]) -> Number {
     let mut at = 0;
-    let mut k = 0;
-    while k < names.len() {
+    for k in 0..names.len() {
         if at >= names.len() {
             return Number::Nothing;
         }
@@ -64,7 +59,6 @@ pub fn place(name: &[u8], names: &[u8]) -> Number {
             return Number::Is(k as u64);
         }
         at = after(names, end);
-        k += 1;
     }
     Number::Nothing
 }

@@ -118,9 +118,7 @@ fn number(w: &[u8], verb: u64) -> Number {
 // The numbers of a line from a place on, and how many they are.
 pub fn numbers(s: &[u8], from: usize, verb: u64, args: &mut [u64; ARGS]) -> usize {
     let mut at = from;
-    let most = ARGS;
-    let mut n = 0;
-    while n < most {
+    for n in 0..ARGS {
         if at >= s.len() {
             return n;
         }
@@ -129,8 +127,7 @@ pub fn numbers(s: &[u8], from: usize, verb: u64, args: &mut [u64; ARGS]) -> usiz
             return BAD;
         };
         args[n] = v;
-        n += 1;
         at = after(s, end);
     }
-    if at < s.len() { BAD } else { n }
+    if at < s.len() { BAD } else { ARGS }
 }
