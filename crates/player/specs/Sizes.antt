@@ -11,7 +11,7 @@ lent_cells = 512
 abbrev pub longest_answer : ℕ
 longest_answer = room (2 + lent_cells)
 
--- bytes of a large buffer of the crate `io`: so much is read at once, and so much is written
+-- bytes of a large buffer: so much is read at once, and so much is written
 abbrev pub large_buffer : ℕ
 large_buffer = 65536
 

@@ -1,8 +1,8 @@
-// The body of the replay programs: standard input read in large pieces, a record at a time performed on the lent store, the answer lines
+// The body of the replay programs: their input read in large pieces, a record at a time performed on the lent store, the answer lines
 // written in large pieces. What is answered to a piece is written before the next is read, so that a caller behind a pipe does not wait.
 #![tactic(auto)]
 
-ghost use Rattle.std.specs.Prelude.{◌≡◌, List, ℕ, ◌+◌, ◌≤◌, length, drop};
+ghost use Rattle.std.specs.Prelude.{◌≡◌, List, ℕ, ◌+◌, ◌≤◌, length, drop, IfOk};
 ghost use Rattle.rules.specs.Lent.{mem_in, mem_out};
 ghost use Rattle.pieces.specs.Held.{Sane, Holds};
 ghost use Rattle.pieces.specs.Laws.{between};
@@ -12,8 +12,9 @@ ghost use Rattle.player.specs.Sizes.{Lent, longest_answer};
 ghost use Rattle.player.specs.Turns.{Ready, Answered, Turned, Stands, Placed};
 ghost use Rattle.player.specs.Batches.{Taken, Batched, Moved};
 
-use libc::{STDIN_FILENO, STDOUT_FILENO};
 use pieces::{Held, Next};
+use std::io;
+use std::io::{Read, Write};
 use words::{CELL_WORDS, LAST_ID, WIDTH};
 
 // Cells and rows that a replay program lends.
@@ -26,6 +27,9 @@ const RECORD: usize = 96;
 
 // Bytes that the longest answer may take.
 const ANSWER: usize = 9 + 21 * (2 + CELLS);
+
+// Bytes of the buffers: so much is read at once at most, and so much is written.
+const LARGE: usize = 65536;
 
 // Where the work stands: the places in the piece and in the output, and what is held of a record.
 #[derive(Clone, Copy)]
@@ -123,7 +127,8 @@ fn first_place(held: Held) -> Place
 }
 
 // Every record that ends in the piece, batch after batch, each written out.
-fn play_piece(
+fn play_piece<W: Write>(
+    output: &mut W,
     piece: &[u8],
     held: Held,
     front: &mut [u8],
@@ -134,11 +139,11 @@ fn play_piece(
     reports: &mut [[u64; 3]],
     numbers: &mut [u64],
     out: &mut [u8],
-) -> Held
+) -> io::Result<Held>
     requires lent { Lent (length front.old) (length reports.old) (length numbers.old) (length out.old) }
     requires sane { Sane (length front.old) held }
-    ensures sane_2 { Sane (length front.old) result }
-    ensures by_index { (p : List ℕ) → Holds p front.old held → Taken (rooms_in reports numbers) p piece.now front.new result (mem_in meta rows cells slots) (mem_out meta rows cells slots) }
+    ensures sane_2 { IfOk result (λ h. Sane (length front.old) h) }
+    ensures by_index { IfOk result (λ h. (p : List ℕ) → Holds p front.old held → Taken (rooms_in reports numbers) p piece.now front.new h (mem_in meta rows cells slots) (mem_out meta rows cells slots)) }
 {
     let mut place = first_place(held);
     while place.from < piece.len() {
@@ -146,10 +151,10 @@ fn play_piece(
             piece, place, front, meta, rows, cells, slots, reports, numbers, out,
         );
         let at = place.at;
-        io::write_all(STDOUT_FILENO, &out[..at]);
+        output.write_all(&out[..at])?;
         place.at = 0;
     }
-    place.held
+    Ok(place.held)
 }
 
 // What has come at the end of the input is a last record, where it is not empty. Answers the place after its answer.
@@ -177,9 +182,11 @@ fn answer_rest(
     perform::perform(text, meta, rows, cells, slots, reports, numbers, out, 0)
 }
 
-// Every record that ends in standard input; what is held at its end. A proved loop has to end, and nothing says that the input does: so it
+// Every record that ends in the input; what is held at its end. A proved loop has to end, and nothing says that the input does: so it
 // counts its turns down, from a number that no run uses up.
-fn play_input(
+fn play_input<R: Read, W: Write>(
+    input: &mut R,
+    output: &mut W,
     front: &mut [u8],
     meta: &mut [u64],
     rows: &mut [u64],
@@ -188,22 +195,22 @@ fn play_input(
     reports: &mut [[u64; 3]],
     numbers: &mut [u64],
     out: &mut [u8],
-) -> Held
+) -> io::Result<Held>
     requires { Lent (length front.old) (length reports.old) (length numbers.old) (length out.old) }
-    ensures { Sane (length front.old) result }
+    ensures { IfOk result (λ h. Sane (length front.old) h) }
 {
-    let mut input = io::large_buffer();
+    let mut piece = [0u8; LARGE];
     let mut held = pieces::nothing();
     let mut turns = LAST_ID;
     while turns > 0 {
         turns -= 1;
-        let got = libc::read(STDIN_FILENO, &mut input);
-        let n = io::count(got, &input);
+        let n = input.read(&mut piece)?;
         if n == 0 {
-            return held;
+            return Ok(held);
         }
         held = play_piece(
-            &input[..n],
+            output,
+            &piece[..n],
             held,
             front,
             meta,
@@ -213,23 +220,27 @@ fn play_input(
             reports,
             numbers,
             out,
-        );
+        )?;
     }
-    held
+    Ok(held)
 }
 
-// Answers every record of standard input.
-pub fn play(
+// Answers every record of the input.
+pub fn play<R: Read, W: Write>(
+    input: &mut R,
+    output: &mut W,
     meta: &mut [u64],
     rows: &mut [u64],
     cells: &mut [[u64; CELL_WORDS]],
     slots: &mut [[u64; WIDTH]],
-) {
+) -> io::Result<()> {
     let mut front = [0u8; RECORD];
     let mut reports = [[0u64; 3]; CELLS];
     let mut numbers = [0u64; CELLS];
-    let mut out = io::large_buffer();
+    let mut out = [0u8; LARGE];
     let held = play_input(
+        input,
+        output,
         &mut front,
         meta,
         rows,
@@ -238,7 +249,7 @@ pub fn play(
         &mut reports,
         &mut numbers,
         &mut out,
-    );
+    )?;
     let end = answer_rest(
         held,
         &front,
@@ -250,5 +261,5 @@ pub fn play(
         &mut numbers,
         &mut out,
     );
-    io::write_all(STDOUT_FILENO, &out[..end]);
+    output.write_all(&out[..end])
 }
