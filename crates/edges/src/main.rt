@@ -4,6 +4,8 @@
 
 mod lines;
 
+ghost use Rattle.std.specs.Prelude.{◌≤◌, length, IfOk};
+
 use saying::{say, say_number};
 use std::io;
 use std::io::Read;
@@ -11,7 +13,9 @@ use std::io::Read;
 const LONGEST: usize = 400000;
 
 // Reads until `into` is full or the input ends; how many bytes it put at the front.
-fn read_full<R: Read>(from: &mut R, into: &mut [u8]) -> io::Result<usize> {
+fn read_full<R: Read>(from: &mut R, into: &mut [u8]) -> io::Result<usize>
+    ensures { IfOk result (λ n. n ≤ length into.new) }
+{
     let mut done = 0;
     while done < into.len() {
         let n = from.read(&mut into[done..])?;
