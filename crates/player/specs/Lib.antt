@@ -2,4 +2,5 @@ pub mod Sizes
 pub mod Turns
 pub mod Batches
 pub mod Runs
+pub mod Written
 pub mod OneRun

@@ -2,15 +2,16 @@
 // written in large pieces. What is answered to a piece is written before the next is read, so that a caller behind a pipe does not wait.
 #![tactic(auto)]
 
-ghost use Rattle.std.specs.Prelude.{◌≡◌, List, ℕ, ◌+◌, ◌≤◌, length, drop, IfOk};
+ghost use Rattle.std.specs.Prelude.{◌≡◌, List, ℕ, ◌+◌, ◌≤◌, length, drop, IfOk, OnOk};
 ghost use Rattle.rules.specs.Lent.{mem_in, mem_out};
 ghost use Rattle.pieces.specs.Held.{Sane, Holds};
 ghost use Rattle.pieces.specs.Laws.{between};
 ghost use Rattle.pieces.specs.Texts.{records};
-ghost use Rattle.perform.specs.Laws.{rooms_in};
-ghost use Rattle.player.specs.Sizes.{Lent, longest_answer};
+ghost use Rattle.perform.specs.Laws.{rooms, rooms_in};
+ghost use Rattle.player.specs.Sizes.{Lent, lent_cells, longest_answer};
 ghost use Rattle.player.specs.Turns.{Ready, Answered, Turned, Stands, Placed};
 ghost use Rattle.player.specs.Batches.{Taken, Batched, Moved};
+ghost use Rattle.player.specs.Written.{Wrote, Heard, Replayed};
 
 use pieces::{Held, Next};
 use std::io;
@@ -144,6 +145,7 @@ fn play_piece<W: Write>(
     requires sane { Sane (length front.old) held }
     ensures sane_2 { IfOk result (λ h. Sane (length front.old) h) }
     ensures by_index { IfOk result (λ h. (p : List ℕ) → Holds p front.old held → Taken (rooms_in reports numbers) p piece.now front.new h (mem_in meta rows cells slots) (mem_out meta rows cells slots)) }
+    ensures written { OnOk result ((p : List ℕ) → Holds p front.old held → Wrote (rooms_in reports numbers) p piece.now (mem_in meta rows cells slots) (W.contents output.old) (W.contents output.new)) }
 {
     let mut place = first_place(held);
     while place.from < piece.len() {
@@ -197,7 +199,9 @@ fn play_input<R: Read, W: Write>(
     out: &mut [u8],
 ) -> io::Result<Held>
     requires { Lent (length front.old) (length reports.old) (length numbers.old) (length out.old) }
-    ensures { IfOk result (λ h. Sane (length front.old) h) }
+    ensures sane { IfOk result (λ h. Sane (length front.old) h) }
+    ensures heard { IfOk result (λ h. Heard (rooms_in reports numbers) front.new h (mem_in meta rows cells slots) (mem_out meta rows cells slots)
+        (R.remaining input.old) (R.remaining input.new) (W.contents output.old) (W.contents output.new)) }
 {
     let mut piece = [0u8; LARGE];
     let mut held = pieces::nothing();
@@ -233,7 +237,10 @@ pub fn play<R: Read, W: Write>(
     rows: &mut [u64],
     cells: &mut [[u64; CELL_WORDS]],
     slots: &mut [[u64; WIDTH]],
-) -> io::Result<()> {
+) -> io::Result<()>
+    ensures { OnOk result (Replayed (rooms lent_cells lent_cells) (mem_in meta rows cells slots) (mem_out meta rows cells slots)
+        (R.remaining input.old) (R.remaining input.new) (W.contents output.old) (W.contents output.new)) }
+{
     let mut front = [0u8; RECORD];
     let mut reports = [[0u64; 3]; CELLS];
     let mut numbers = [0u64; CELLS];

@@ -1,0 +1,37 @@
+-- What a replay program writes of what it reads. A reader's bytes that are left and a writer's bytes are known or not; where they are not, nothing is said of them.
+use Rattle.std.specs.Prelude.{ℕ, ◌+◌, ◌<◌, ◌≤◌, ◌≡◌, Option, None, Some, List, [], ◌++◌, length, take}
+use Rattle.std.specs.Io.KnownBytes.{Appends, Consumes, IsAtEnd}
+use Rattle.std.proofs.Common.{sym, ap, ◌∙◌, arith, append_assoc, append-nil}
+use Rattle.std.proofs.KnownBytes.{Appends-nil, Appends-trans, Consumes-nil, Consumes-trans}
+use Rattle.words.specs.Sizes.{base, last_id}
+use Rattle.rules.specs.Memory.{Mem}
+use Rattle.digits.specs.Numbers.{Laid}
+use Rattle.pieces.specs.declared.Held.{Held}
+use Rattle.pieces.specs.Held.{Holds}
+use Rattle.pieces.specs.Texts.{records}
+use Rattle.pieces.specs.Parts.{parts}
+use Rattle.perform.specs.Perform.{Rooms, replayed, memory_after}
+use Rattle.player.specs.Turns.{Answered}
+use Rattle.player.specs.Batches.{Taken}
+
+-- p had come since the last end, and then s: what is written grew by the answers of the records that ended, in order
+abbrev pub Wrote : Rooms → List ℕ → List ℕ → Mem base → Option (List ℕ) → Option (List ℕ) → Type 0
+Wrote z p s m was now = Appends was now (replayed z (parts (p ++ s)).closed m)
+
+-- s was read, to the end where it is shorter than any number of turns: the memory is that of the records that ended, what stands behind the
+-- last end is held, and their answers were written
+pub record Heard (z : Rooms) (front : List ℕ) (h : Held) (m after : Mem base) (left rest was now : Option (List ℕ)) : Type 0 where
+  pub s : List ℕ
+  pub read : Consumes left rest s
+  pub ended : length s < last_id → IsAtEnd rest
+  pub taken : Taken z [] s front h m after
+  pub written : Wrote z [] s m was now
+
+-- s was read, to the end where it is shorter than any number of turns: its records' answers were written, in order, each once, and the memory
+-- is theirs
+pub record Replayed (z : Rooms) (m after : Mem base) (left rest was now : Option (List ℕ)) : Type 0 where
+  pub s : List ℕ
+  pub read : Consumes left rest s
+  pub ended : length s < last_id → IsAtEnd rest
+  pub memory : after ≡ memory_after z (records s) m
+  pub written : Appends was now (replayed z (records s) m)
