@@ -1,7 +1,6 @@
 -- Many records: what a batch of them promises, and that batches go on from each other.
 use Rattle.std.specs.Prelude.{ℕ, suc, ◌+◌, ◌-◌, ◌<◌, ◌≤◌, ◌≡◌, length, take, drop}
 use mathlib.Core.List.{List, [], ◌∷◌, ◌++◌, append-nil, append_assoc}
-use Rattle.std.proofs.Math.Option.{none}
 use Rattle.std.proofs.Math.Path.{sym, ap}
 use Rattle.std.proofs.Common.{◌∙◌, arith}
 use Rattle.std.proofs.Math.Seq.{take-append-add}
@@ -18,7 +17,7 @@ use Rattle.perform.specs.Laws.{replayed_both, memory_after_both}
 use Rattle.player.specs.declared.Place.{Place}
 use Rattle.player.specs.declared.Turn.{Turn}
 use Rattle.player.specs.Sizes.{longest_answer}
-use Rattle.player.specs.Turns.{Answered, Ends, Waits, Turned, Stands, Placed}
+use Rattle.player.specs.Turns.{Ends, Waits, Turned, Stands, Placed}
 
 -- p had come since the last end, and then s: the memory is that of the records that ended, and what stands behind the last end is held
 pub record Taken (z : Rooms) (p s front : List ℕ) (h : Held) (m after : Mem base) : Type 0 where

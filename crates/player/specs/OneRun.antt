@@ -2,7 +2,7 @@
 use Rattle.std.specs.Prelude.{ℕ, ◌<◌, Bool, true, false, List, [], ◌∷◌, ◌++◌, ◌≡◌, refl, length, take, replicate}
 use Rattle.std.proofs.Common.{sym, ap, ◌∙◌, arith, take_all}
 use Rattle.words.specs.Sizes.{base, meta_words}
-use Rattle.words.specs.Lists.{has, keep, first, last, least, greatest}
+use Rattle.words.specs.Lists.{has, keep, first, least, greatest}
 use Rattle.words.specs.Slots.{opened}
 use Rattle.rules.specs.Memory.{Mem, mem}
 use Rattle.rules.specs.Snapshot.{occupied, vacant}

@@ -64,7 +64,7 @@ cut_joins no_piece = refl
 -- ---- a run
 
 -- what was put at the front of the output is what is written
-front_of_lem : {before out w : List ℕ} {at : ℕ} → Laid before out 0 at w → at ≤ length out → take at out ≡ w
+pub front_of_lem : {before out w : List ℕ} {at : ℕ} → Laid before out 0 at w → at ≤ length out → take at out ≡ w
 front_of_lem {before} {out} {w} {at} x h =
     let f : length w ≤ length before = omega (arith, x.past, laid_length x) in
     rw x.bytes (front_put before w at (omega (arith, x.past)) f)

@@ -1,6 +1,6 @@
 -- From the bytes of a piece to the bytes of an answer: the record that ends there, performed.
 use Rattle.std.specs.Prelude.{ℕ, suc, ◌+◌, ◌-◌, ◌<◌, ◌≤◌, Bool, true, false, List, [], ◌∷◌, ◌++◌, ◌≡◌, refl, ltb, length, take}
-use Rattle.std.proofs.Math.Option.{none, some}
+use Rattle.std.proofs.Math.Option.{some}
 use Rattle.std.proofs.Common.{sym, ap, ◌∙◌, arith, take_all, ltb-true, ltb-false}
 use Rattle.digits.specs.Numbers.{Laid}
 use Rattle.answers.specs.Answers.{room}

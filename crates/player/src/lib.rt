@@ -2,7 +2,8 @@
 // written in large pieces. What is answered to a piece is written before the next is read, so that a caller behind a pipe does not wait.
 #![tactic(auto)]
 
-ghost use Rattle.std.specs.Prelude.{◌≡◌, List, ℕ, ◌+◌, ◌≤◌, length, drop, IfOk, OnOk};
+ghost use Rattle.std.specs.Prelude.{◌≡◌, List, ℕ, ◌+◌, ◌≤◌, length, drop, ◌<◌, IfOk, IfSome, OnOk};
+ghost use Rattle.words.specs.Sizes.{last_id};
 ghost use Rattle.rules.specs.Lent.{mem_in, mem_out};
 ghost use Rattle.pieces.specs.Held.{Sane, Holds};
 ghost use Rattle.pieces.specs.Laws.{between};
@@ -11,7 +12,7 @@ ghost use Rattle.perform.specs.Laws.{rooms, rooms_in};
 ghost use Rattle.player.specs.Sizes.{Lent, lent_cells, longest_answer};
 ghost use Rattle.player.specs.Turns.{Ready, Answered, Turned, Stands, Placed};
 ghost use Rattle.player.specs.Batches.{Taken, Batched, Moved};
-ghost use Rattle.player.specs.Written.{Wrote, Heard, Replayed};
+ghost use Rattle.player.specs.Written.{Wrote, Heard, Replayed, Whole};
 
 use pieces::{Held, Next};
 use std::io;
@@ -238,8 +239,10 @@ pub fn play<R: Read, W: Write>(
     cells: &mut [[u64; CELL_WORDS]],
     slots: &mut [[u64; WIDTH]],
 ) -> io::Result<()>
-    ensures { OnOk result (Replayed (rooms lent_cells lent_cells) (mem_in meta rows cells slots) (mem_out meta rows cells slots)
+    ensures replayed { OnOk result (Replayed (rooms lent_cells lent_cells) (mem_in meta rows cells slots) (mem_out meta rows cells slots)
         (R.remaining input.old) (R.remaining input.new) (W.contents output.old) (W.contents output.new)) }
+    ensures whole { OnOk result (IfSome (R.remaining input.old) (λ text. length text < last_id
+        → Whole (rooms lent_cells lent_cells) text (mem_in meta rows cells slots) (mem_out meta rows cells slots) (W.contents output.old) (W.contents output.new))) }
 {
     let mut front = [0u8; RECORD];
     let mut reports = [[0u64; 3]; CELLS];

@@ -1,0 +1,30 @@
+use Rattle.std.proofs.Common.{arith, refl}
+use Rattle.player.specs.Batches.{taken_start, batch_then, all_taken}
+use Rattle.player.specs.Written.{wrote_start, wrote_then, all_wrote}
+use Rattle.player.proofs.play_piece.Goals as goal
+
+pub loop-place-init : goal.loop-place-init
+loop-place-init g c =
+    let e = c.first_place-place.ensures in
+    (rw e.1.1 c.requires.sane, omega (arith, e.0), e.1.0, λ p x. taken_start _ p c.args.piece.now _ _ _ _ e.0 x, λ p x. wrote_start _ p c.args.piece.now _ _ _ _ _ e.0 x)
+
+pub loop-place-preserved : goal.loop-place-preserved
+loop-place-preserved g c =
+    let i = c.loop-place.invariant in
+    let w = c.play_batch-place.ensures.moved in (
+      w.stands.sane,
+      w.stands.within,
+      refl,
+      λ p x.
+          batch_then _ p _ _ (rw (c.loop-place.auto.reports, c.loop-place.auto.numbers)) c.loop-place.place c.play_batch-place.result _ _ _ _ _ _ _ w.forward (i.3 p x)
+          (c.play_batch-place.ensures.by_index _ (i.3 p x).holds),
+      λ p x.
+          wrote_then _ p _ _ (rw (c.loop-place.auto.reports, c.loop-place.auto.numbers)) c.loop-place.place c.play_batch-place.result _ _ _ _ _ _ _ _ _ _ w.forward i.2 w.stands.put (i.3 p x) (i.4 p x)
+          (c.play_batch-place.ensures.by_index _ (i.3 p x).holds) c.in_ok-write_all.ensures.bytes,
+    )
+
+pub returns-clause-by_index : goal.returns-clause-by_index
+returns-clause-by_index g c = λ p x. all_taken _ p c.args.piece.now _ _ _ _ _ c.loop-place-test.false (c.loop-place.invariant.3 p (rw c.first_place-place.ensures.1.1 x))
+
+pub returns-clause-written : goal.returns-clause-written
+returns-clause-written g c = λ p x. all_wrote _ p c.args.piece.now _ _ _ _ c.loop-place-test.false (c.loop-place.invariant.4 p (rw c.first_place-place.ensures.1.1 x))
