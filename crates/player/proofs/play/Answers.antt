@@ -1,5 +1,5 @@
 use Rattle.std.proofs.lemmas.Result.{on_ok_weaker}
-use Rattle.player.specs.Written.{heard_rest, replayed_whole}
+use Rattle.player.proofs.Writing.{heard_rest, replayed_whole}
 use Rattle.player.proofs.play.Goals as goal
 
 pub returns : goal.returns

@@ -1,5 +1,5 @@
 use Rattle.std.proofs.Common.{arith, take, ◌-◌}
-use Rattle.player.specs.Written.{hearing_start, hearing_then}
+use Rattle.player.proofs.Writing.{hearing_start, hearing_then}
 use Rattle.player.proofs.play_input.Goals as goal
 
 pub loop-turns-init : goal.loop-turns-init

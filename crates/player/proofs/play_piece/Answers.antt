@@ -1,12 +1,17 @@
 use Rattle.std.proofs.Common.{arith, refl}
 use Rattle.player.specs.Batches.{taken_start, batch_then, all_taken}
-use Rattle.player.specs.Written.{wrote_start, wrote_then, all_wrote}
+use Rattle.player.proofs.Writing.{wrote_start, wrote_then, all_wrote}
 use Rattle.player.proofs.play_piece.Goals as goal
 
 pub loop-place-init : goal.loop-place-init
-loop-place-init g c =
-    let e = c.first_place-place.ensures in
-    (rw e.1.1 c.requires.sane, omega (arith, e.0), e.1.0, λ p x. taken_start _ p c.args.piece.now _ _ _ _ e.0 x, λ p x. wrote_start _ p c.args.piece.now _ _ _ _ _ e.0 x)
+loop-place-init g c = (
+  rw c.first_place-place.ensures.1.1 c.requires.sane,
+  omega (arith, c.first_place-place.ensures.0),
+  c.first_place-place.ensures.1.0,
+  λ p x.
+      taken_start _ p c.args.piece.now _ _ _ _ c.first_place-place.ensures.0 x,
+  λ p x. wrote_start _ p c.args.piece.now _ _ _ _ _ c.first_place-place.ensures.0 x,
+)
 
 pub loop-place-preserved : goal.loop-place-preserved
 loop-place-preserved g c =
