@@ -24,7 +24,7 @@ def snake(name):
 
 
 # Names that would fall together with another name, and those whose plain respelling would say something else.
-# A lemma that would have its function's name ends in _lem.
+# A lemma that would have its function's name ends in _lem. Two constructors that stand in one line with others are named here too.
 CHOSEN = {
     name: snake(name) + "_lem"
     for name in "at-end chain-at end_by front_of is-cell is-key last-in lookup-end new-of new-version no-version opened-at own-write "
@@ -91,6 +91,7 @@ def table(kinds):
             rows[name] = camel(name)
         elif re.search(r"[A-Z]|-", name):
             rows[name] = snake(name)
+    rows.update(CHOSEN)
     return {a: b for a, b in rows.items() if a != b}
 
 

@@ -8,9 +8,11 @@ use Rattle.rules.specs.Memory.{Mem}
 use Rattle.digits.specs.Numbers.{Laid}
 use Rattle.pieces.specs.declared.Held.{Held}
 use Rattle.pieces.specs.Held.{Holds}
-use Rattle.pieces.specs.Laws.{between, between_none, between_joins, between_all}
+use Rattle.pieces.specs.Laws.{between}
+use Rattle.pieces.proofs.Laws.{between_none, between_joins, between_all}
 use Rattle.pieces.specs.Texts.{records}
-use Rattle.pieces.specs.Parts.{Parts, parts, behind, no_end_no_part, parts_go_on, records_go_on}
+use Rattle.pieces.specs.Parts.{Parts, parts, behind}
+use Rattle.pieces.proofs.Parts.{no_end_no_part, parts_go_on, records_go_on}
 use Rattle.perform.specs.Perform.{Rooms, replayed, memory_after}
 use Rattle.perform.specs.Laws.{replayed_both, memory_after_both}
 use Rattle.player.specs.declared.Place.{Place}

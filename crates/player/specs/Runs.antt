@@ -7,9 +7,11 @@ use Rattle.words.specs.Sizes.{base}
 use Rattle.rules.specs.Memory.{Mem}
 use Rattle.pieces.specs.declared.Held.{Held}
 use Rattle.pieces.specs.Held.{Holds}
-use Rattle.pieces.specs.Laws.{between, between_rest}
+use Rattle.pieces.specs.Laws.{between}
+use Rattle.pieces.proofs.Laws.{between_rest}
 use Rattle.pieces.specs.Texts.{records, joined}
-use Rattle.pieces.specs.Parts.{parts, records_go_on, drop_all}
+use Rattle.pieces.specs.Parts.{parts}
+use Rattle.pieces.proofs.Parts.{records_go_on, drop_all}
 use Rattle.perform.specs.Perform.{Rooms, replayed, memory_after}
 use Rattle.perform.specs.Laws.{front_put, replayed_both, memory_after_both}
 use Rattle.player.specs.Turns.{Answered}

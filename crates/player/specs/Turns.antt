@@ -13,7 +13,8 @@ use Rattle.lines.specs.Longest.{longest, cut_means_the_same}
 use Rattle.pieces.specs.declared.Held.{Held}
 use Rattle.pieces.specs.declared.Next.{Next}
 use Rattle.pieces.specs.Ends.{first_end}
-use Rattle.pieces.specs.Texts.{records, no_end_one_record}
+use Rattle.pieces.specs.Texts.{records}
+use Rattle.pieces.proofs.Texts.{no_end_one_record}
 use Rattle.pieces.specs.Held.{Sane, Holds, Ended, Handed, Within}
 use Rattle.perform.specs.Perform.{Rooms, performed, replayed, memory_after}
 use Rattle.perform.specs.Laws.{replayed_one, memory_after_one}

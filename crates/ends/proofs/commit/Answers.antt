@@ -5,7 +5,7 @@ use Rattle.words.specs.Sizes.{base}
 use Rattle.words.specs.Slots.{slot_of}
 use Rattle.rules.specs.Verdicts.{verdict}
 use Rattle.validate.specs.Arenas as L
-use Rattle.validate.specs.CommitLaws.{commit_whole, fine_writes}
+use Rattle.validate.proofs.CommitLaws.{commit_whole, fine_writes}
 use Rattle.publish.specs.PublishLaws as Q
 use Rattle.publish.specs.PublishLaws.{publish_whole}
 use Rattle.ends.specs.CommitRest.{commit_refused, commit_done}

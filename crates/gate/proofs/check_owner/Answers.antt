@@ -1,7 +1,6 @@
 use mathlib.Core.Path.{sym, ◌∙◌}
 use Rattle.rules.specs.Verdicts.{verdict}
 use Rattle.gate.specs.FineLaws.{owner_tests}
-use borrow.Author.Rules.{rules}
 use Rattle.gate.proofs.check_owner.Goals as goal
 
 pub returns-then-is_anothers : goal.returns-then-is_anothers

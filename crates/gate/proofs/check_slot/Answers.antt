@@ -1,9 +1,8 @@
 use native.Mathlib.Omega.{arith}
 use mathlib.Core.Path.{sym, ◌∙◌}
 use borrow.Author.Tests.{le-leb, lt-leb}
-use Rattle.gate.specs.FineLaws.{slot_verdict, store_fine}
+use Rattle.gate.proofs.FineLaws.{slot_verdict, store_fine}
 use Rattle.rules.proofs.Verdicts.{verdict_fails, verdict_passes}
-use borrow.Author.Rules.{rules}
 use Rattle.gate.proofs.check_slot.Goals as goal
 
 pub returns-in_default : goal.returns-in_default

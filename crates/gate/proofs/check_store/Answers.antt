@@ -1,7 +1,6 @@
 use mathlib.Core.Path.{sym, ◌∙◌}
 use Rattle.rules.specs.Verdicts.{verdict}
 use Rattle.rules.specs.Outcome.{store_tests}
-use borrow.Author.Rules.{rules}
 use Rattle.gate.proofs.check_store.Goals as goal
 
 pub returns-then-is_damaged : goal.returns-then-is_damaged

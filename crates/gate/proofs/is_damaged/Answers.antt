@@ -1,8 +1,6 @@
 use native.Mathlib.Omega.{arith}
 use mathlib.Core.Path.{sym, ◌∙◌}
-use borrow.Author.Tests.{not-true, not-false}
-use Rattle.gate.specs.FineLaws.{broken_short}
-use borrow.Author.Rules.{rules}
+use Rattle.gate.proofs.FineLaws.{broken_short}
 use Rattle.gate.proofs.is_damaged.Goals as goal
 
 pub returns-then-meta-le-CLOCK : goal.returns-then-meta-le-CLOCK

@@ -1,5 +1,4 @@
 use borrow.Author.Tests.{lt-ltb, le-ltb}
-use borrow.Author.Rules.{rules}
 use Rattle.gate.proofs.is_overfull.Goals as goal
 
 pub returns-then-slot : goal.returns-then-slot

@@ -1,6 +1,3 @@
-use borrow.Author.Tests.{not-true, not-false}
-use Rattle.pieces.proofs.is_end.Reads as reads
-use Rattle.pieces.proofs.is_end.Lts as lts
 use Rattle.pieces.proofs.is_end.Goals as goal
 
 pub returns-then-not-cr : goal.returns-then-not-cr

@@ -1,15 +1,7 @@
-use mathlib.Core.Path.{refl, sym, ◌∙◌, ◌≡◌}
-use Rattle.pieces.specs.Laws.{between, holds_start, holds_next, ended, between_all, is_cr}
-use Rattle.pieces.specs.Held.{Sane, Holds}
-use lib.ListN.{length}
-use mathlib.Core.List.{List, ◌++◌}
-use Prim.Native.Nat.{ℕ, ◌≤◌, ◌-◌}
+use mathlib.Core.Path.{refl, sym, ◌∙◌}
+use Rattle.pieces.proofs.Laws.{holds_start, holds_next, ended, between_all, is_cr}
 use borrow.Author.Rules.{rules}
 use native.Mathlib.Omega.{arith}
-use Rattle.pieces.proofs.next_record.Reads as reads
-use Rattle.pieces.proofs.next_record.Lts as lts
-use Rattle.pieces.proofs.is_end.Reads as is-end-reads
-use Rattle.pieces.proofs.put.Reads as put_reads
 use Rattle.pieces.proofs.next_record.Goals as goal
 
 pub loop-i-init : goal.loop-i-init

@@ -1,19 +1,13 @@
-use mathlib.Core.Path.{refl, sym, ◌∙◌, ◌≡◌}
-use Rattle.pieces.specs.Laws.{between, holds_start, holds_next, ended, between_all, is_cr}
+use mathlib.Core.Path.{◌≡◌}
+use Rattle.pieces.specs.Laws.{between}
 use Rattle.pieces.specs.Held.{Sane, Holds}
 use lib.ListN.{length}
 use mathlib.Core.List.{List, ◌++◌}
 use Prim.Native.Nat.{ℕ, ◌≤◌, ◌-◌}
-use borrow.Author.Rules.{rules}
-use native.Mathlib.Omega.{arith}
-use Rattle.pieces.proofs.next_record.Reads as reads
-use Rattle.pieces.proofs.next_record.Lts as lts
-use Rattle.pieces.proofs.is_end.Reads as is-end-reads
-use Rattle.pieces.proofs.put.Reads as put_reads
 use Rattle.pieces.proofs.next_record.Given as goal
 
 abbrev pub invariant-loop-i : goal.invariant-loop-i
-invariant-loop-i l =     (l.from ≤ l.i) × (l.i ≤ length l.piece) × Sane (length l.front) (record { count = l.count; cr = l.cr }) × (length l.front ≡ length l.initial.front)
+invariant-loop-i l = (l.from ≤ l.i) × (l.i ≤ length l.piece) × Sane (length l.front) (record { count = l.count; cr = l.cr }) × (length l.front ≡ length l.initial.front)
     × ((p : List ℕ) → Holds p l.initial.front (record { count = l.initial.count; cr = l.initial.cr }) → Holds (p ++ between l.piece l.from l.i) l.front (record { count = l.count; cr = l.cr }))
 
 abbrev pub decreases-loop-i : goal.decreases-loop-i

@@ -1,7 +1,4 @@
-use Rattle.pieces.specs.Laws.{holds_nothing, sane_nothing}
-use borrow.Author.Rules.{rules}
-use Rattle.pieces.proofs.nothing.Reads as reads
-use Rattle.pieces.proofs.nothing.Lts as lts
+use Rattle.pieces.proofs.Laws.{holds_nothing, sane_nothing}
 use Rattle.pieces.proofs.nothing.Goals as goal
 
 pub returns : goal.returns

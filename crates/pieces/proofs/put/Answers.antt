@@ -3,9 +3,6 @@ use lib.Seq.{take-suc-set}
 use native.Mathlib.Numerals.{add-one}
 use mathlib.Core.Path.{refl}
 use native.Mathlib.Omega.{arith}
-use borrow.Author.Rules.{rules}
-use Rattle.pieces.proofs.put.Reads as reads
-use Rattle.pieces.proofs.put.Lts as lts
 use Rattle.pieces.proofs.put.Goals as goal
 
 pub returns-then-count-front : goal.returns-then-count-front

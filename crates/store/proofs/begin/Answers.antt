@@ -1,4 +1,4 @@
-use Rattle.gate.specs.FineLaws.{store_fine}
+use Rattle.gate.proofs.FineLaws.{store_fine}
 use Rattle.store.specs.Tested.{tested_refused, tested_fine}
 use Rattle.starts.specs.BeginLaws.{begin_split}
 use mathlib.Core.Path.{sym, ◌∙◌}

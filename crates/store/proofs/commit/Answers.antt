@@ -1,5 +1,5 @@
 use Rattle.ends.specs.CommitRest.{commit_split}
-use Rattle.gate.specs.FineLaws.{slot_fine}
+use Rattle.gate.proofs.FineLaws.{slot_fine}
 use Rattle.store.specs.Tested.{tested_refused, tested_fine}
 use mathlib.Core.Path.{sym, ◌∙◌}
 use borrow.Author.Rules.{rules}

@@ -1,5 +1,5 @@
 use Rattle.lookup.specs.LookupRest.{lookup_all_split}
-use Rattle.gate.specs.FineLaws.{slot_fine}
+use Rattle.gate.proofs.FineLaws.{slot_fine}
 use Rattle.store.specs.Tested.{tested_refused, tested_fine, told_over, told_refused}
 use mathlib.Core.Path.{sym, ◌∙◌}
 use borrow.Author.Rules.{rules}

@@ -1,5 +1,5 @@
 use Rattle.vacuum.specs.Rest.{vacuum_split}
-use Rattle.gate.specs.FineLaws.{store_fine}
+use Rattle.gate.proofs.FineLaws.{store_fine}
 use Rattle.store.specs.Tested.{tested_refused, tested_fine, told_over, told_refused}
 use mathlib.Core.Path.{sym, ◌∙◌}
 use borrow.Author.Rules.{rules}

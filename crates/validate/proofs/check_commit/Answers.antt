@@ -1,6 +1,5 @@
-use Rattle.validate.specs.CommitLaws.{judge_none, judge_some}
+use Rattle.validate.proofs.CommitLaws.{judge_none, judge_some}
 use mathlib.Core.Path.{sym}
-use borrow.Author.Rules.{rules}
 use Rattle.validate.proofs.check_commit.Goals as goal
 
 pub returns-then-slot-eq0 : goal.returns-then-slot-eq0

@@ -1,15 +1,12 @@
-use Rattle.rules.proofs.TestLaws.{tests_done, tests_stop, tests_next}
 use Rattle.validate.specs.Arenas.{lent, sized}
 use Rattle.rules.specs.Verdicts.{verdict}
 use Rattle.rules.specs.Outcome.{each}
 use Rattle.words.specs.Slots.{slot_of, threes, write}
 use Rattle.words.specs.Sizes.{base}
 use Rattle.rules.specs.Commit.{new_tests}
-use Prim.Native.Nat.{◌+◌, ◌*◌, ◌-◌, ◌≤◌}
+use Prim.Native.Nat.{◌+◌, ◌*◌, ◌≤◌}
 use mathlib.Core.List.{[]}
-use mathlib.Core.Path.{◌≡◌, sym, ◌∙◌}
-use native.Mathlib.Omega.{arith}
-use borrow.Author.Rules.{rules}
+use mathlib.Core.Path.{◌≡◌}
 use Rattle.validate.proofs.check_news.Given as goal
 
 abbrev pub invariant-loop-left : goal.invariant-loop-left

@@ -1,7 +1,6 @@
 use mathlib.Core.Path.{sym, ◌∙◌}
 use Rattle.rules.proofs.Verdicts.{verdict_passes, verdict_fails, last_passes}
 use Rattle.rules.proofs.TestLaws.{first_fails, first_passes}
-use borrow.Author.Rules.{rules}
 use Rattle.validate.proofs.check_record.Goals as goal
 
 pub returns-in_default : goal.returns-in_default

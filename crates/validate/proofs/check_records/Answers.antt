@@ -1,15 +1,7 @@
 use Rattle.rules.proofs.TestLaws.{tests_done, tests_stop, tests_next}
-use Rattle.validate.specs.Arenas.{lent, sized}
-use Rattle.rules.specs.Verdicts.{verdict}
-use Rattle.rules.specs.Outcome.{each}
-use Rattle.words.specs.Slots.{slot_of, threes, rec}
-use Rattle.words.specs.Sizes.{base}
-use Rattle.rules.specs.Commit.{record_tests}
-use Prim.Native.Nat.{◌+◌, ◌*◌, ◌-◌, ◌≤◌}
-use mathlib.Core.List.{[]}
-use mathlib.Core.Path.{◌≡◌, sym, ◌∙◌}
+use Rattle.words.specs.Slots.{slot_of}
+use mathlib.Core.Path.{sym, ◌∙◌}
 use native.Mathlib.Omega.{arith}
-use borrow.Author.Rules.{rules}
 use Rattle.validate.proofs.check_records.Goals as goal
 
 pub loop-left-init : goal.loop-left-init

@@ -1,7 +1,6 @@
 use Rattle.words.specs.Slots.{slot_of}
 use Rattle.kinds.specs.Visible.{conflict}
 use borrow.Author.Tests.{eq-eqb, ne_eqb, le-leb, lt-leb}
-use borrow.Author.Rules.{rules}
 use Rattle.validate.proofs.is_conflict.Goals as goal
 
 pub returns-then-creator-xmin : goal.returns-then-creator-xmin
