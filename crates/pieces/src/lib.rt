@@ -59,7 +59,7 @@ pub fn next_record(front: &mut [u8], held: Held, piece: &[u8], from: usize) -> N
     requires from_in_bounds { from ≤ length piece.now }
     ensures within { Within (length front.new) from (length piece.now) result }
     ensures front_len_unchanged { length front.new ≡ length front.old }
-    ensures by_index { (p : List ℕ) → Holds p front.old held → Handed p (drop from piece.now) from front.new result }
+    ensures handed { (p : List ℕ) → Holds p front.old held → Handed p (drop from piece.now) from front.new result }
 {
     let mut count = held.count;
     let mut cr = held.cr;

@@ -63,7 +63,7 @@ fn play_record(
 ) -> Turn
     requires { Ready (length piece.now) (length front.old) (length reports.old) (length numbers.old) (length out.old) place }
     ensures placed { Placed (length piece.now) (length front.new) (length out.new) place result }
-    ensures by_index { (p : List ℕ) → Holds p front.old place.held
+    ensures turned { (p : List ℕ) → Holds p front.old place.held
         → Turned (rooms_in reports numbers) p (drop place.from piece.now) place front.new (mem_in meta rows cells slots) (mem_out meta rows cells slots) out.old out.new result }
 {
     let at = place.at;
@@ -101,7 +101,7 @@ fn play_batch(
     requires lent { Lent (length front.old) (length reports.old) (length numbers.old) (length out.old) }
     requires stands { (Stands (length piece.now) (length front.old) (length out.old) start) × (start.at + longest_answer ≤ length out.old) }
     ensures moved { Moved (length piece.now) (length front.new) (length out.new) start result }
-    ensures by_index { (p : List ℕ) → Holds p front.old start.held
+    ensures batched { (p : List ℕ) → Holds p front.old start.held
         → Batched (rooms_in reports numbers) p (between piece.now start.from result.from) front.new result.held (mem_in meta rows cells slots) (mem_out meta rows cells slots) out.old out.new start.at result.at }
 {
     let mut place = start;
@@ -144,8 +144,8 @@ fn play_piece<W: Write>(
 ) -> io::Result<Held>
     requires lent { Lent (length front.old) (length reports.old) (length numbers.old) (length out.old) }
     requires sane { Sane (length front.old) held }
-    ensures sane_2 { IfOk result (λ h. Sane (length front.old) h) }
-    ensures by_index { IfOk result (λ h. (p : List ℕ) → Holds p front.old held → Taken (rooms_in reports numbers) p piece.now front.new h (mem_in meta rows cells slots) (mem_out meta rows cells slots)) }
+    ensures still_sane { IfOk result (λ h. Sane (length front.old) h) }
+    ensures taken { IfOk result (λ h. (p : List ℕ) → Holds p front.old held → Taken (rooms_in reports numbers) p piece.now front.new h (mem_in meta rows cells slots) (mem_out meta rows cells slots)) }
     ensures written { OnOk result ((p : List ℕ) → Holds p front.old held → Wrote (rooms_in reports numbers) p piece.now (mem_in meta rows cells slots) (W.contents output.old) (W.contents output.new)) }
 {
     let mut place = first_place(held);
@@ -175,7 +175,7 @@ fn answer_rest(
     requires lent { Lent (length front.now) (length reports.old) (length numbers.old) (length out.old) }
     requires sane { Sane (length front.now) held }
     ensures upper_bound { result ≤ length out.new }
-    ensures by_index { (p : List ℕ) → Holds p front.now held → Answered (rooms_in reports numbers) (records p) (mem_in meta rows cells slots) (mem_out meta rows cells slots) out.old out.new 0 result }
+    ensures answered { (p : List ℕ) → Holds p front.now held → Answered (rooms_in reports numbers) (records p) (mem_in meta rows cells slots) (mem_out meta rows cells slots) out.old out.new 0 result }
 {
     let count = held.count;
     if count == 0 {

@@ -68,7 +68,7 @@ fn sweep(
     requires sweepable { Sweepable cells.old horizon head.0 count (length reports.old) }
     ensures value { result ≡ Vacuumed count (value_of (version_at cells.old head.0)) }
     ensures reports_after { reports.new ≡ sets reports.old 0 (rule.reports cells.old (gone cells.old horizon head.0)) }
-    ensures by_index { (r : List ℕ) (s : List (List ℕ)) → mem {z = base} meta.new r cells.new s
+    ensures swept { (r : List ℕ) (s : List (List ℕ)) → mem {z = base} meta.new r cells.new s
         ≡ fold give_back (gone cells.old horizon head.0)
         (mem meta.old r (rule.relink (head.0 ∷ stays cells.old horizon head.0) cells.old) s) }
 {

@@ -6,6 +6,6 @@ pub returns : goal.returns
 returns g c =
     let e = on_ok_weaker _
     (λ w.
-    heard_rest _ _ _ _ _ (rw (c.play_input.auto.reports, c.play_input.auto.numbers)) _ _ _ _ _ _ _ _ _ _ c.in_ok-held.ensures.heard c.answer_rest-end.ensures.by_index c.answer_rest-end.ensures.upper_bound w)
+    heard_rest _ _ _ _ _ (rw (c.play_input.auto.reports, c.play_input.auto.numbers)) _ _ _ _ _ _ _ _ _ _ c.in_ok-held.ensures.heard c.answer_rest-end.ensures.answered c.answer_rest-end.ensures.upper_bound w)
     c.write_all.ensures.bytes in
     record { replayed = e; whole = on_ok_weaker _ (λ x. replayed_whole _ _ _ _ _ _ _ x) e }

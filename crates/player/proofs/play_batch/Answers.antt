@@ -6,11 +6,11 @@ use Rattle.player.proofs.play_batch.Goals as goal
 pub loop-place-init : goal.loop-place-init
 loop-place-init c = (c.requires.stands.0, omega arith, λ h. omega (arith, c.requires.stands.1), λ p x. batched_start _ p c.args.piece.now c.args.start.from _ _ _ _ _ x)
 
-pub returns-in-More-clause-by_index : goal.returns-in-More-clause-by_index
-returns-in-More-clause-by_index c = λ p x.
+pub returns-in-More-clause-batched : goal.returns-in-More-clause-batched
+returns-in-More-clause-batched c = λ p x.
     let i = c.loop-place.invariant in
     more_then (rooms (length c.args.reports.now) (length c.args.numbers.now)) (rooms (length c.loop-place.reports) (length c.loop-place.numbers)) (rw (c.loop-place.auto.reports, c.loop-place.auto.numbers)) p _ c.args.start c.loop-place.place c.in-More.next _ _ _ _ _ _ _ _ _ refl i.1 i.0.within c.in-More.ensures.placed.1
-    (i.3 p x) (c.in-More.ensures.by_index _ (i.3 p x).taken.holds)
+    (i.3 p x) (c.in-More.ensures.turned _ (i.3 p x).taken.holds)
 
 pub loop-place-preserved : goal.loop-place-preserved
 loop-place-preserved c =
@@ -21,5 +21,5 @@ loop-place-preserved c =
       λ h. omega (arith, w.1, i.1),
       λ p x.
           answered_then _ _ (rw (c.loop-place.auto.reports, c.loop-place.auto.numbers)) p _ c.args.start c.loop-place.place c.in-Answered.next _ _ _ _ _ _ _ _ _ refl i.1 w.1
-          (i.3 p x) (c.in-Answered.ensures.by_index _ (i.3 p x).taken.holds),
+          (i.3 p x) (c.in-Answered.ensures.turned _ (i.3 p x).taken.holds),
     )

@@ -22,14 +22,14 @@ loop-place-preserved g c =
       refl,
       λ p x.
           batch_then _ p _ _ (rw (c.loop-place.auto.reports, c.loop-place.auto.numbers)) c.loop-place.place c.play_batch-place.result _ _ _ _ _ _ _ w.forward (i.3 p x)
-          (c.play_batch-place.ensures.by_index _ (i.3 p x).holds),
+          (c.play_batch-place.ensures.batched _ (i.3 p x).holds),
       λ p x.
           wrote_then _ p _ _ (rw (c.loop-place.auto.reports, c.loop-place.auto.numbers)) c.loop-place.place c.play_batch-place.result _ _ _ _ _ _ _ _ _ _ w.forward i.2 w.stands.put (i.3 p x) (i.4 p x)
-          (c.play_batch-place.ensures.by_index _ (i.3 p x).holds) c.in_ok-write_all.ensures.bytes,
+          (c.play_batch-place.ensures.batched _ (i.3 p x).holds) c.in_ok-write_all.ensures.bytes,
     )
 
-pub returns-clause-by_index : goal.returns-clause-by_index
-returns-clause-by_index g c = λ p x. all_taken _ p c.args.piece.now _ _ _ _ _ c.loop-place-test.false (c.loop-place.invariant.3 p (rw c.first_place-place.ensures.1.1 x))
+pub returns-clause-taken : goal.returns-clause-taken
+returns-clause-taken g c = λ p x. all_taken _ p c.args.piece.now _ _ _ _ _ c.loop-place-test.false (c.loop-place.invariant.3 p (rw c.first_place-place.ensures.1.1 x))
 
 pub returns-clause-written : goal.returns-clause-written
 returns-clause-written g c = λ p x. all_wrote _ p c.args.piece.now _ _ _ _ c.loop-place-test.false (c.loop-place.invariant.4 p (rw c.first_place-place.ensures.1.1 x))

@@ -22,4 +22,4 @@ pub give_all-requires : goal.give_all-requires
 give_all-requires c = record { meta_words_in_bounds = c.requires.meta_words_in_bounds; count_in_bounds = sweep_room c.args.cells.now c.args.reports.now c.args.horizon c.args.head.0 c.args.count c.requires.sweepable c.version_at-v.result c.version_at-v.ensures _ c.report_dead.ensures; all_cells = sweep_cells c.args.cells.now c.args.reports.now c.args.horizon c.args.head.0 c.args.count c.requires.sweepable c.version_at-v.result c.version_at-v.ensures _ c.report_dead.ensures _ c.relink.ensures }
 
 pub returns : goal.returns
-returns c = record { value = ap (Vacuumed c.args.count) (c.live_value-live.ensures ∙ ap (λ (v : Version). value_of v) c.version_at-v.ensures); reports_after = sweep_reported c.args.cells.now c.args.reports.now c.args.horizon c.args.head.0 c.args.count c.requires.sweepable c.version_at-v.result c.version_at-v.ensures _ c.report_dead.ensures; by_index = λ r t. sweep_done c.args.cells.now c.args.reports.now c.args.horizon c.args.head.0 c.args.count c.requires.sweepable c.version_at-v.result c.version_at-v.ensures _ c.report_dead.ensures _ c.relink.ensures c.args.meta.now r t _ (c.give_all.ensures r t) }
+returns c = record { value = ap (Vacuumed c.args.count) (c.live_value-live.ensures ∙ ap (λ (v : Version). value_of v) c.version_at-v.ensures); reports_after = sweep_reported c.args.cells.now c.args.reports.now c.args.horizon c.args.head.0 c.args.count c.requires.sweepable c.version_at-v.result c.version_at-v.ensures _ c.report_dead.ensures; swept = λ r t. sweep_done c.args.cells.now c.args.reports.now c.args.horizon c.args.head.0 c.args.count c.requires.sweepable c.version_at-v.result c.version_at-v.ensures _ c.report_dead.ensures _ c.relink.ensures c.args.meta.now r t _ (c.give_all.ensures r t) }

@@ -30,4 +30,4 @@ pub returns-in-Harmed : goal.returns-in-Harmed
 returns-in-Harmed c = by_outcome_and_reports_after (refuses (vacuum_rest (mem {z = base} c.args.meta.now c.args.rows.now c.args.cells.now c.args.slots.now) c.args.row c.args.request (length c.args.reports.now)) (mem {z = base} c.args.meta.now c.args.rows.now c.args.cells.now c.args.slots.now) _ _ _ _ c.refused-in-Harmed.ensures (vacuum_harmed (mem {z = base} c.args.meta.now c.args.rows.now c.args.cells.now c.args.slots.now) c.args.row c.args.request (length c.args.reports.now) c.if-meta-row.false c.requires.fits.some_cell c.if-head-eq0.false (omega (arith, c.if-n-head.false)) c.version_at-v.result c.version_at-v.ensures c.horizon_behind-horizon.result c.horizon_behind-horizon.ensures c.count_dead.result c.count_dead.ensures c.in-Harmed.is))
 
 pub returns-else-reports-count : goal.returns-else-reports-count
-returns-else-reports-count c = by_outcome_and_reports_after (comes (vacuum_rest (mem {z = base} c.args.meta.now c.args.rows.now c.args.cells.now c.args.slots.now) c.args.row c.args.request (length c.args.reports.now)) _ _ _ c.args.reports.now _ c.sweep.ensures.reports_after (vacuum_done (mem {z = base} c.args.meta.now c.args.rows.now c.args.cells.now c.args.slots.now) c.args.row c.args.request (length c.args.reports.now) c.if-meta-row.false c.requires.fits.some_cell c.if-head-eq0.false (omega (arith, c.if-n-head.false)) c.version_at-v.result c.version_at-v.ensures c.horizon_behind-horizon.result c.horizon_behind-horizon.ensures c.count_dead.result c.count_dead.ensures c.requires.fits.cells _ c.in-Sound.is (omega (arith, c.if-reports-count.false)) _ c.sweep.ensures.value _ (c.sweep.ensures.by_index c.args.rows.now c.args.slots.now)))
+returns-else-reports-count c = by_outcome_and_reports_after (comes (vacuum_rest (mem {z = base} c.args.meta.now c.args.rows.now c.args.cells.now c.args.slots.now) c.args.row c.args.request (length c.args.reports.now)) _ _ _ c.args.reports.now _ c.sweep.ensures.reports_after (vacuum_done (mem {z = base} c.args.meta.now c.args.rows.now c.args.cells.now c.args.slots.now) c.args.row c.args.request (length c.args.reports.now) c.if-meta-row.false c.requires.fits.some_cell c.if-head-eq0.false (omega (arith, c.if-n-head.false)) c.version_at-v.result c.version_at-v.ensures c.horizon_behind-horizon.result c.horizon_behind-horizon.ensures c.count_dead.result c.count_dead.ensures c.requires.fits.cells _ c.in-Sound.is (omega (arith, c.if-reports-count.false)) _ c.sweep.ensures.value _ (c.sweep.ensures.swept c.args.rows.now c.args.slots.now)))
