@@ -1,5 +1,5 @@
 -- A cell that is not there reads as the empty version: so a version is read of any pointer.
-use Rattle.std.specs.Prelude.{ℕ, ◌-◌, ◌<◌, List, [], ◌∷◌, ◌≡◌, length, get_or}
+use Rattle.std.specs.Prelude.{ℕ, ◌<◌, List, [], ◌∷◌, ◌≡◌, length, get_or}
 use Rattle.std.proofs.Common.{ap, arith}
 use Rattle.std.proofs.Math.ListN.{get_or-eq_default}
 use Rattle.kinds.specs.Versions.{empty_version, version_of, cell_at, version_at, link_at}

@@ -1,6 +1,6 @@
 -- No call but a write has a field after its numbers.
 use Prim.Native.Nat.{ℕ, ◌<◌}
-use mathlib.Core.List.{List, [], ◌∷◌}
+use mathlib.Core.List.{List}
 use mathlib.Core.Logic.{◌≢◌}
 use mathlib.Core.Path.{◌≡◌, refl}
 use lib.ListN.{length}

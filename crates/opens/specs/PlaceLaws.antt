@@ -1,5 +1,5 @@
 -- Ids put one after the other, and words stored one after the other.
-use Rattle.std.specs.Prelude.{ℕ, suc, ◌+◌, ◌-◌, ◌≤◌, ◌<◌, min, Bool, true, false, cond, List, [], ◌∷◌, ◌++◌, ◌≡◌, refl, length, set, take, drop, eqb}
+use Rattle.std.specs.Prelude.{ℕ, suc, ◌+◌, ◌≤◌, ◌<◌, min, Bool, true, false, cond, List, [], ◌∷◌, ◌++◌, ◌≡◌, refl, length, set, take, drop, eqb}
 use Rattle.std.proofs.Common.{append_assoc, append-nil, sym, ap, ◌∙◌, arith, drop_of_length-le, drop-cons}
 use Rattle.std.proofs.Math.Numerals.{add-one}
 use Rattle.std.proofs.Math.ListN.{get_or}

@@ -1,5 +1,5 @@
 -- The list of an accepted vacuum or lookup has as many members as the answer says, and has room in the buffer.
-use Rattle.std.specs.Prelude.{ℕ, suc, ◌+◌, ◌≤◌, Bool, cond, ◌≡◌, ltb, length}
+use Rattle.std.specs.Prelude.{ℕ, suc, ◌≤◌, Bool, cond, ◌≡◌, ltb, length}
 use Rattle.std.proofs.Math.Bool.{true, false}
 use mathlib.Core.List.{List, [], ◌∷◌, ◌++◌}
 use Rattle.std.proofs.Math.Path.{refl, sym}

@@ -3,7 +3,6 @@ use Rattle.std.specs.Prelude.{ℕ, cond, ◌≡◌, refl}
 use Rattle.std.proofs.Math.Option.{Option, none, some}
 use Rattle.std.proofs.Common.{ap, arith}
 use Rattle.kinds.specs.declared.Cell.{Cell}
-use Rattle.kinds.specs.declared.Version.{Version}
 use Rattle.kinds.specs.Versions.{at}
 use Rattle.words.specs.Slots.{Write}
 use Rattle.rules.specs.Chain.{Look, found, nothing, too_long, harmed}

@@ -1,7 +1,6 @@
 use Rattle.rules.specs.Read.{answer_at}
 use mathlib.Core.Path.{sym}
 use borrow.Author.Tests.{eq-eqb, ne_eqb}
-use borrow.Author.Rules.{rules}
 use Rattle.access.proofs.answer_at.Goals as goal
 
 pub returns-then-c-eq0 : goal.returns-then-c-eq0

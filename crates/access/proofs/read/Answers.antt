@@ -5,7 +5,6 @@ use Rattle.words.specs.Sizes.{CELLS}
 use lib.ListN.{get_or, set}
 use mathlib.Core.List.{[]}
 use mathlib.Core.Path.{sym, ap, ◌∙◌}
-use borrow.Author.Rules.{rules}
 use Rattle.access.proofs.read.Goals as goal
 
 pub returns-then-meta-row : goal.returns-then-meta-row

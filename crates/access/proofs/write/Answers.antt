@@ -1,6 +1,5 @@
 use Rattle.access.specs.WriteRest.{write_bad_row, write_own, write_first}
 use mathlib.Core.Path.{sym, ◌∙◌}
-use borrow.Author.Rules.{rules}
 use Rattle.access.proofs.write.Goals as goal
 
 pub returns-then-meta-row : goal.returns-then-meta-row

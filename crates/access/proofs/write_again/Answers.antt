@@ -1,5 +1,4 @@
 use Rattle.access.specs.WriteRest.{again_none, again_past, again_done}
-use borrow.Author.Rules.{rules}
 use Rattle.access.proofs.write_again.Goals as goal
 
 pub returns-then-c-eq0 : goal.returns-then-c-eq0

@@ -7,7 +7,6 @@ use mathlib.Core.Option.{none}
 use Rattle.access.specs.WriteRest.{first_head, first_room, first_done, head_in, room_facts}
 use mathlib.Core.Path.{sym, ap, ◌∙◌}
 use native.Mathlib.Omega.{arith}
-use borrow.Author.Rules.{rules}
 use Rattle.access.proofs.write_first.Goals as goal
 
 pub returns-in_default : goal.returns-in_default

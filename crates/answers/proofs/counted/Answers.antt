@@ -2,7 +2,6 @@ use Rattle.answers.specs.Laws.{laid_length, laid_then, field_fits, list_fits, an
 use Rattle.answers.specs.Answers.{fields}
 use mathlib.Core.List.{◌∷◌}
 use native.Mathlib.Omega.{arith}
-use borrow.Author.Rules.{rules}
 use Rattle.answers.proofs.counted.Goals as goal
 
 -- UNPLACED slice-aggregate-put-bytes

@@ -1,5 +1,4 @@
 use Rattle.answers.specs.Answers.{answer, fields}
-use borrow.Author.Rules.{rules}
 use Rattle.answers.proofs.empty.Goals as goal
 
 -- UNPLACED slice-aggregate-put-bytes

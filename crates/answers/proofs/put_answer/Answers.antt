@@ -1,6 +1,5 @@
 use native.Mathlib.Omega.{arith}
 use Rattle.answers.specs.Laws.{laid_length, list_fits, answered}
-use borrow.Author.Rules.{rules}
 use Rattle.answers.proofs.put_answer.Goals as goal
 
 -- UNPLACED slice-aggregate-put-bytes

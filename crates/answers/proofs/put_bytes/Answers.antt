@@ -1,8 +1,6 @@
 use native.Mathlib.Omega.{arith}
-use mathlib.Core.Path.{◌≡◌, refl}
-use lib.ListN.{length, take, length-set}
-use Prim.Native.Nat.{◌+◌, ◌-◌, ◌≤◌}
-use Rattle.digits.specs.Numbers.{Laid}
+use mathlib.Core.Path.{refl}
+use lib.ListN.{length-set}
 use Rattle.answers.specs.Laws.{laid_start, laid_more, laid_all}
 use Rattle.answers.proofs.put_bytes.Goals as goal
 

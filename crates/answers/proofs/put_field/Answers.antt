@@ -1,7 +1,6 @@
 use native.Mathlib.Omega.{arith}
 use lib.ListN.{length-set}
 use Rattle.answers.specs.Laws.{laid_then, laid_byte, laid_length}
-use borrow.Author.Rules.{rules}
 use Rattle.answers.proofs.put_field.Goals as goal
 
 pub put-requires : goal.put-requires

@@ -1,10 +1,5 @@
-use borrow.Author.Rules.{rules}
 use native.Mathlib.Omega.{arith}
-use mathlib.Core.Path.{◌≡◌, refl, sym, ◌∙◌}
-use lib.ListN.{length, take}
-use Prim.Native.Nat.{◌+◌, ◌-◌, ◌*◌, ◌≤◌}
-use Rattle.answers.specs.Answers.{fields, span}
-use Rattle.digits.specs.Numbers.{Laid}
+use mathlib.Core.Path.{refl, sym, ◌∙◌}
 use Rattle.answers.specs.Laws.{laid_none, laid_then, laid_as, laid_length, field_fits, fields_none, fields_more, fields_all}
 use Rattle.answers.proofs.put_fields.Goals as goal
 

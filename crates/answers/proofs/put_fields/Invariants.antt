@@ -1,11 +1,8 @@
-use borrow.Author.Rules.{rules}
-use native.Mathlib.Omega.{arith}
-use mathlib.Core.Path.{◌≡◌, refl, sym, ◌∙◌}
+use mathlib.Core.Path.{◌≡◌}
 use lib.ListN.{length, take}
 use Prim.Native.Nat.{◌+◌, ◌-◌, ◌*◌, ◌≤◌}
 use Rattle.answers.specs.Answers.{fields, span}
 use Rattle.digits.specs.Numbers.{Laid}
-use Rattle.answers.specs.Laws.{laid_none, laid_then, laid_as, laid_length, field_fits, fields_none, fields_more, fields_all}
 use Rattle.answers.proofs.put_fields.Given as goal
 
 abbrev pub invariant-loop-i : goal.invariant-loop-i

@@ -7,9 +7,8 @@ use Rattle.kinds.specs.Visible.{visible}
 use Rattle.words.specs.Slots.{slot_of}
 use Rattle.kinds.specs.Versions.{version_at}
 use Rattle.words.specs.Sizes.{base}
-use mathlib.Core.Path.{◌≡◌, refl, sym, ap, ◌∙◌}
+use mathlib.Core.Path.{refl, sym, ap, ◌∙◌}
 use native.Mathlib.Omega.{arith}
-use borrow.Author.Rules.{rules}
 use Rattle.arena.proofs.first_visible.Goals as goal
 
 pub loop-c-init : goal.loop-c-init

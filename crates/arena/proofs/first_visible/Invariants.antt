@@ -1,15 +1,8 @@
-use Prim.Native.Nat.{◌-◌}
-use Rattle.kinds.specs.declared.Version.{Version}
-use Rattle.arena.specs.LookLaws.{look_end, look_limit, look_harmed, look_found, look_next}
-use Rattle.arena.specs.Sights.{sighted}
 use Rattle.rules.specs.Chain.{look}
-use Rattle.kinds.specs.Visible.{visible}
 use Rattle.words.specs.Slots.{slot_of}
 use Rattle.kinds.specs.Versions.{version_at}
 use Rattle.words.specs.Sizes.{base}
-use mathlib.Core.Path.{◌≡◌, refl, sym, ap, ◌∙◌}
-use native.Mathlib.Omega.{arith}
-use borrow.Author.Rules.{rules}
+use mathlib.Core.Path.{◌≡◌}
 use Rattle.arena.proofs.first_visible.Given as goal
 
 abbrev pub invariant-loop-c : goal.invariant-loop-c

@@ -1,6 +1,5 @@
 use Rattle.kinds.specs.Versions.{put_cell}
 use native.Mathlib.Omega.{arith}
-use borrow.Author.Rules.{rules}
 use Rattle.arena.proofs.put_cell.Goals as goal
 
 pub overflow_sub-i : goal.overflow_sub-i

@@ -1,4 +1,3 @@
-use borrow.Author.Rules.{rules}
 use Rattle.arena.proofs.put_version.Goals as goal
 
 pub returns : goal.returns

@@ -1,6 +1,5 @@
 use mathlib.Core.Path.{refl}
 use Rattle.kinds.specs.Versions.{version_of}
-use borrow.Author.Rules.{rules}
 use Rattle.arena.proofs.unpacked.Goals as goal
 
 pub returns : goal.returns

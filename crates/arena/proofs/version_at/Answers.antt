@@ -3,7 +3,6 @@ use Rattle.rules.proofs.Theory.CellLaws.{cell_index}
 use Rattle.kinds.specs.Versions.{version_of}
 use mathlib.Core.Path.{sym, ap, ◌∙◌}
 use native.Mathlib.Omega.{arith}
-use borrow.Author.Rules.{rules}
 use Rattle.arena.proofs.version_at.Goals as goal
 
 pub returns-then-n-eq0 : goal.returns-then-n-eq0

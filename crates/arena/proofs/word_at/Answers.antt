@@ -1,7 +1,6 @@
 use mathlib.Core.Path.{sym}
 use lib.ListN.{get_or-eq_default}
 use native.Mathlib.Omega.{arith}
-use borrow.Author.Rules.{rules}
 use Rattle.arena.proofs.word_at.Goals as goal
 
 pub returns : goal.returns

@@ -1,10 +1,7 @@
-use Rattle.chains.specs.Tallies.{dead, tally, tally_end, tally_limit, tally_broken, tally_next, bit_le}
-use Rattle.rules.specs.Chain.{chain}
+use Rattle.chains.specs.Tallies.{dead, tally_end, tally_limit, tally_broken, tally_next, bit_le}
 use Rattle.kinds.specs.Versions.{version_at}
-use borrow.Author.Rules.{rules}
 use native.Mathlib.Omega.{arith}
-use mathlib.Core.Path.{◌≡◌, refl, sym, ◌∙◌}
-use Prim.Native.Nat.{◌+◌, ◌-◌, ◌≤◌}
+use mathlib.Core.Path.{refl, sym, ◌∙◌}
 use Rattle.chains.proofs.count_dead.Goals as goal
 
 pub loop-c-init : goal.loop-c-init

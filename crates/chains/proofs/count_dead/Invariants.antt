@@ -1,10 +1,8 @@
-use Rattle.chains.specs.Tallies.{dead, tally, tally_end, tally_limit, tally_broken, tally_next, bit_le}
+use Rattle.chains.specs.Tallies.{dead, tally}
 use Rattle.rules.specs.Chain.{chain}
 use Rattle.kinds.specs.Versions.{version_at}
-use borrow.Author.Rules.{rules}
-use native.Mathlib.Omega.{arith}
-use mathlib.Core.Path.{◌≡◌, refl, sym, ◌∙◌}
-use Prim.Native.Nat.{◌+◌, ◌-◌, ◌≤◌}
+use mathlib.Core.Path.{◌≡◌}
+use Prim.Native.Nat.{◌+◌, ◌≤◌}
 use Rattle.chains.proofs.count_dead.Given as goal
 
 abbrev pub invariant-loop-c : goal.invariant-loop-c

@@ -1,7 +1,5 @@
-use Rattle.chains.specs.Fronts.{Giving, giving_start, giving_cell, giving_next, giving_end}
-use borrow.Author.Rules.{rules}
+use Rattle.chains.specs.Fronts.{giving_start, giving_cell, giving_next, giving_end}
 use native.Mathlib.Omega.{arith}
-use Prim.Native.Nat.{◌-◌}
 use Rattle.chains.proofs.give_all.Goals as goal
 
 pub loop-i-init : goal.loop-i-init

@@ -1,6 +1,4 @@
-use Rattle.chains.specs.Fronts.{Giving, giving_start, giving_cell, giving_next, giving_end}
-use borrow.Author.Rules.{rules}
-use native.Mathlib.Omega.{arith}
+use Rattle.chains.specs.Fronts.{Giving}
 use Prim.Native.Nat.{◌-◌}
 use Rattle.chains.proofs.give_all.Given as goal
 

@@ -1,7 +1,6 @@
 use Rattle.kinds.specs.Versions.{with_next, put_version}
 use Rattle.kinds.specs.declared.Version.{Version}
 use mathlib.Core.Path.{ap, ◌∙◌}
-use borrow.Author.Rules.{rules}
 use Rattle.chains.proofs.link.Goals as goal
 
 pub returns : goal.returns

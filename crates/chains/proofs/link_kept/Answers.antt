@@ -1,5 +1,4 @@
 use mathlib.Core.Path.{refl, sym, ◌∙◌}
-use borrow.Author.Rules.{rules}
 use Rattle.chains.proofs.link_kept.Goals as goal
 
 pub returns-then-is_reclaimable : goal.returns-then-is_reclaimable

@@ -1,7 +1,4 @@
-use Rattle.chains.specs.Linking.{Linking, linking_start, linking_next, linking_less, linking_end, linking_size}
-use Rattle.chains.specs.Lines.{line}
-use lib.ListN.{length}
-use borrow.Author.Rules.{rules}
+use Rattle.chains.specs.Linking.{linking_start, linking_next, linking_less, linking_end, linking_size}
 use native.Mathlib.Omega.{arith}
 use mathlib.Core.Path.{◌∙◌}
 use Rattle.chains.proofs.relink.Goals as goal

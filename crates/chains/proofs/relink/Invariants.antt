@@ -1,9 +1,6 @@
-use Rattle.chains.specs.Linking.{Linking, linking_start, linking_next, linking_less, linking_end, linking_size}
+use Rattle.chains.specs.Linking.{Linking}
 use Rattle.chains.specs.Lines.{line}
 use lib.ListN.{length}
-use borrow.Author.Rules.{rules}
-use native.Mathlib.Omega.{arith}
-use mathlib.Core.Path.{◌∙◌}
 use Rattle.chains.proofs.relink.Given as goal
 
 abbrev pub invariant-loop-c : goal.invariant-loop-c

@@ -1,4 +1,3 @@
-use borrow.Author.Tests.{not-true, not-false}
 use lib.ListN.{length}
 use Prim.Native.Nat.{◌<◌}
 use native.Mathlib.Omega.{arith}

@@ -1,8 +1,6 @@
 use native.Mathlib.Omega.{arith}
-use mathlib.Core.Path.{◌≡◌}
-use lib.ListN.{length}
-use Prim.Native.Nat.{suc, ◌+◌, ◌-◌, ◌^◌, ◌<◌, ◌≤◌}
-use Rattle.digits.specs.Numbers.{most, digits, spell}
+use Prim.Native.Nat.{◌-◌}
+use Rattle.digits.specs.Numbers.{most}
 use Rattle.digits.specs.Laws.{count_done, again, enough}
 use Rattle.digits.proofs.count.Goals as goal
 

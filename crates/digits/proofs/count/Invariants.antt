@@ -1,9 +1,7 @@
-use native.Mathlib.Omega.{arith}
 use mathlib.Core.Path.{◌≡◌}
 use lib.ListN.{length}
 use Prim.Native.Nat.{suc, ◌+◌, ◌-◌, ◌^◌, ◌<◌, ◌≤◌}
 use Rattle.digits.specs.Numbers.{most, digits, spell}
-use Rattle.digits.specs.Laws.{count_done, again, enough}
 use Rattle.digits.proofs.count.Given as goal
 
 abbrev pub invariant-loop-rest : goal.invariant-loop-rest

@@ -1,7 +1,6 @@
 use native.Mathlib.Omega.{arith}
 use mathlib.Core.Path.{sym}
 use Rattle.digits.specs.Laws.{leads_none, leads_one, leads_more}
-use borrow.Author.Rules.{rules}
 use Rattle.digits.proofs.leads.Goals as goal
 
 pub returns-then-s-eq0 : goal.returns-then-s-eq0

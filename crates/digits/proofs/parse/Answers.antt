@@ -1,10 +1,6 @@
-use borrow.Author.Tests.{not-true, not-false}
-use borrow.Author.Rules.{rules}
 use native.Mathlib.Omega.{arith}
-use mathlib.Core.Path.{◌≡◌, sym, ap, ◌∙◌}
-use lib.ListN.{length, drop}
-use Prim.Native.Nat.{◌-◌, ◌^◌, ◌<◌, ◌≤◌}
-use Rattle.digits.specs.Numbers.{told, read_on, number_of}
+use mathlib.Core.Path.{sym, ap, ◌∙◌}
+use Rattle.digits.specs.Numbers.{told}
 use Rattle.digits.specs.Laws.{number_bad, number_start, read_done, read_low, read_high, read_big, read_step}
 use Rattle.digits.proofs.parse.Goals as goal
 

@@ -1,11 +1,7 @@
-use borrow.Author.Tests.{not-true, not-false}
-use borrow.Author.Rules.{rules}
-use native.Mathlib.Omega.{arith}
-use mathlib.Core.Path.{◌≡◌, sym, ap, ◌∙◌}
+use mathlib.Core.Path.{◌≡◌}
 use lib.ListN.{length, drop}
 use Prim.Native.Nat.{◌-◌, ◌^◌, ◌<◌, ◌≤◌}
-use Rattle.digits.specs.Numbers.{told, read_on, number_of}
-use Rattle.digits.specs.Laws.{number_bad, number_start, read_done, read_low, read_high, read_big, read_step}
+use Rattle.digits.specs.Numbers.{read_on, number_of}
 use Rattle.digits.proofs.parse.Given as goal
 
 abbrev pub invariant-loop-i : goal.invariant-loop-i

@@ -1,11 +1,8 @@
-use borrow.Author.Rules.{rules}
 use native.Mathlib.Omega.{arith}
-use mathlib.Core.Path.{◌≡◌, refl, sym, ap, ◌∙◌}
-use lib.Seq.{sets}
-use lib.ListN.{length, length-set}
-use Prim.Native.Nat.{ℕ, ◌+◌, ◌-◌, ◌≤◌}
-use Rattle.digits.specs.Numbers.{digits}
-use Rattle.digits.specs.Laws.{last_digits, put_step, put_done, put_start}
+use mathlib.Core.Path.{refl, sym, ap, ◌∙◌}
+use lib.ListN.{length-set}
+use Prim.Native.Nat.{ℕ, ◌+◌}
+use Rattle.digits.specs.Laws.{put_step, put_done, put_start}
 use Rattle.digits.proofs.put.Goals as goal
 
 pub loop-i-init : goal.loop-i-init

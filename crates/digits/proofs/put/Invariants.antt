@@ -1,11 +1,9 @@
-use borrow.Author.Rules.{rules}
-use native.Mathlib.Omega.{arith}
-use mathlib.Core.Path.{◌≡◌, refl, sym, ap, ◌∙◌}
+use mathlib.Core.Path.{◌≡◌}
 use lib.Seq.{sets}
-use lib.ListN.{length, length-set}
-use Prim.Native.Nat.{ℕ, ◌+◌, ◌-◌, ◌≤◌}
+use lib.ListN.{length}
+use Prim.Native.Nat.{◌≤◌}
 use Rattle.digits.specs.Numbers.{digits}
-use Rattle.digits.specs.Laws.{last_digits, put_step, put_done, put_start}
+use Rattle.digits.specs.Laws.{last_digits}
 use Rattle.digits.proofs.put.Given as goal
 
 abbrev pub invariant-loop-i : goal.invariant-loop-i

@@ -11,7 +11,6 @@ use Rattle.words.specs.Lists.{fold}
 use Rattle.rules.specs.Memory.{mem}
 use Rattle.rules.specs.Abort.{news, give_back}
 use native.Mathlib.Omega.{arith}
-use borrow.Author.Rules.{rules}
 use Rattle.ends.proofs.abort.Goals as goal
 
 pub unlock_all-requires : goal.unlock_all-requires

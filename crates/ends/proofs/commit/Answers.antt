@@ -9,7 +9,6 @@ use Rattle.validate.proofs.CommitLaws.{commit_whole, fine_writes}
 use Rattle.publish.specs.PublishLaws as Q
 use Rattle.publish.specs.PublishLaws.{publish_whole}
 use Rattle.ends.specs.CommitRest.{commit_refused, commit_done}
-use borrow.Author.Rules.{rules}
 use Rattle.ends.proofs.commit.Goals as goal
 
 pub publish_all-requires : goal.publish_all-requires

@@ -1,12 +1,7 @@
 use native.Mathlib.Omega.{arith}
-use mathlib.Core.Path.{◌≡◌, refl, sym, ◌∙◌}
-use borrow.Author.Rules.{rules}
+use mathlib.Core.Path.{refl, sym, ◌∙◌}
 use Rattle.finds.specs.Marks.{candidate_test, drop_next, drop_end, tests_next, tests_stop, tests_end}
 use borrow.Author.Tests.{le-leb, lt-leb}
-use Rattle.rules.specs.Verdicts.{verdict}
-use Rattle.rules.specs.Outcome.{each}
-use lib.ListN.{length, drop}
-use Prim.Native.Nat.{◌≤◌, ◌-◌}
 use Rattle.finds.proofs.check_candidates.Goals as goal
 
 pub loop-i-init : goal.loop-i-init

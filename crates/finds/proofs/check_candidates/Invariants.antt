@@ -1,8 +1,5 @@
-use native.Mathlib.Omega.{arith}
-use mathlib.Core.Path.{◌≡◌, refl, sym, ◌∙◌}
-use borrow.Author.Rules.{rules}
-use Rattle.finds.specs.Marks.{candidate_test, drop_next, drop_end, tests_next, tests_stop, tests_end}
-use borrow.Author.Tests.{le-leb, lt-leb}
+use mathlib.Core.Path.{◌≡◌}
+use Rattle.finds.specs.Marks.{candidate_test}
 use Rattle.rules.specs.Verdicts.{verdict}
 use Rattle.rules.specs.Outcome.{each}
 use lib.ListN.{length, drop}

@@ -1,6 +1,5 @@
 use native.Mathlib.Omega.{arith}
-use mathlib.Core.Path.{◌≡◌, refl, sym, ap, ◌∙◌}
-use borrow.Author.Rules.{rules}
+use mathlib.Core.Path.{refl, sym, ap, ◌∙◌}
 use Rattle.finds.specs.Marks.{own_row_test, own_rows_next, own_rows_end, tests_next, tests_stop, tests_end}
 use borrow.Author.Tests.{le-leb, lt-leb}
 use Rattle.words.specs.Sizes.{base, WRITES}
@@ -8,7 +7,7 @@ use Rattle.words.specs.Slots.{write, threes, slot_of}
 use Rattle.rules.specs.Lookup.{own_rows}
 use Rattle.rules.specs.Verdicts.{verdict}
 use Rattle.rules.specs.Outcome.{each}
-use Prim.Native.Nat.{ℕ, ◌+◌, ◌*◌, ◌≤◌}
+use Prim.Native.Nat.{ℕ, ◌+◌}
 use Rattle.finds.proofs.check_own.Goals as goal
 
 pub overflow_add-at : goal.overflow_add-at

@@ -1,14 +1,11 @@
-use native.Mathlib.Omega.{arith}
-use mathlib.Core.Path.{◌≡◌, refl, sym, ap, ◌∙◌}
-use borrow.Author.Rules.{rules}
-use Rattle.finds.specs.Marks.{own_row_test, own_rows_next, own_rows_end, tests_next, tests_stop, tests_end}
-use borrow.Author.Tests.{le-leb, lt-leb}
-use Rattle.words.specs.Sizes.{base, WRITES}
+use mathlib.Core.Path.{◌≡◌}
+use Rattle.finds.specs.Marks.{own_row_test}
+use Rattle.words.specs.Sizes.{base}
 use Rattle.words.specs.Slots.{write, threes, slot_of}
 use Rattle.rules.specs.Lookup.{own_rows}
 use Rattle.rules.specs.Verdicts.{verdict}
 use Rattle.rules.specs.Outcome.{each}
-use Prim.Native.Nat.{ℕ, ◌+◌, ◌*◌, ◌≤◌}
+use Prim.Native.Nat.{◌+◌, ◌*◌, ◌≤◌}
 use Rattle.finds.proofs.check_own.Given as goal
 
 abbrev pub invariant-loop-rest : goal.invariant-loop-rest

@@ -2,7 +2,6 @@ use borrow.Author.Tests.{eq-eqb, ne_eqb}
 use mathlib.Core.Path.{sym}
 use Rattle.rules.specs.Lookup.{is_key}
 use Rattle.rules.specs.Read.{answer_at}
-use borrow.Author.Rules.{rules}
 use Rattle.finds.proofs.has_key.Goals as goal
 
 pub returns-then-c-eq0 : goal.returns-then-c-eq0

@@ -1,8 +1,7 @@
 use native.Mathlib.Omega.{arith}
 use mathlib.Core.Path.{sym, ◌∙◌}
-use borrow.Author.Tests.{le-leb, lt-leb, not-true, not-false}
+use borrow.Author.Tests.{le-leb, lt-leb}
 use Rattle.finds.specs.Sweep.{list_at}
-use borrow.Author.Rules.{rules}
 use Rattle.finds.proofs.list_row.Goals as goal
 
 pub returns-then-not-has_key : goal.returns-then-not-has_key

@@ -1,7 +1,6 @@
 use borrow.Author.Tests.{le-leb, lt-leb}
 use Rattle.words.specs.Sizes.{base}
 use Rattle.finds.specs.Marks.{marked}
-use borrow.Author.Rules.{rules}
 use Rattle.finds.proofs.mark.Goals as goal
 
 pub returns-then-row : goal.returns-then-row

@@ -1,10 +1,7 @@
 use native.Mathlib.Omega.{arith}
-use mathlib.Core.Path.{◌≡◌, refl, sym, ap, ◌∙◌}
-use borrow.Author.Rules.{rules}
+use mathlib.Core.Path.{refl, sym, ap, ◌∙◌}
 use Rattle.finds.specs.Marks.{marked, drop_next, drop_end, marks_next, marks_end}
 use Rattle.words.specs.Lists.{fold}
-use lib.ListN.{length, drop}
-use Prim.Native.Nat.{◌≤◌, ◌-◌}
 use Rattle.finds.proofs.mark_all.Goals as goal
 
 pub loop-i-init : goal.loop-i-init

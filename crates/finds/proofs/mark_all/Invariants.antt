@@ -1,7 +1,5 @@
-use native.Mathlib.Omega.{arith}
-use mathlib.Core.Path.{◌≡◌, refl, sym, ap, ◌∙◌}
-use borrow.Author.Rules.{rules}
-use Rattle.finds.specs.Marks.{marked, drop_next, drop_end, marks_next, marks_end}
+use mathlib.Core.Path.{◌≡◌}
+use Rattle.finds.specs.Marks.{marked}
 use Rattle.words.specs.Lists.{fold}
 use lib.ListN.{length, drop}
 use Prim.Native.Nat.{◌≤◌, ◌-◌}

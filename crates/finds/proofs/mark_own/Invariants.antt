@@ -1,12 +1,10 @@
-use native.Mathlib.Omega.{arith}
-use mathlib.Core.Path.{◌≡◌, sym, ap, ◌∙◌}
-use borrow.Author.Rules.{rules}
-use Rattle.finds.specs.Marks.{marked, own_rows_next, own_rows_end, marks_next, marks_end}
-use Rattle.words.specs.Sizes.{base, WRITES}
+use mathlib.Core.Path.{◌≡◌}
+use Rattle.finds.specs.Marks.{marked}
+use Rattle.words.specs.Sizes.{base}
 use Rattle.words.specs.Slots.{write, threes, slot_of}
 use Rattle.rules.specs.Lookup.{own_rows}
 use Rattle.words.specs.Lists.{fold}
-use Prim.Native.Nat.{ℕ, ◌+◌, ◌*◌, ◌≤◌}
+use Prim.Native.Nat.{◌+◌, ◌*◌, ◌≤◌}
 use Rattle.finds.proofs.mark_own.Given as goal
 
 abbrev pub invariant-loop-left : goal.invariant-loop-left

@@ -1,10 +1,8 @@
-use borrow.Author.Rules.{rules}
 use native.Mathlib.Omega.{arith}
-use mathlib.Core.Path.{◌≡◌, sym, ◌∙◌}
-use Prim.Native.Nat.{◌≤◌, ◌-◌}
+use mathlib.Core.Path.{sym, ◌∙◌}
+use Prim.Native.Nat.{◌-◌}
 use Rattle.kinds.specs.Versions.{version_at}
-use Rattle.finds.specs.declared.Listing.TheVariants.{Rows}
-use Rattle.finds.specs.Sweep.{note, sweep, remaining, scan_end, scan_stops, scan_goes, scan_count, scan_start}
+use Rattle.finds.specs.Sweep.{scan_end, scan_stops, scan_goes, scan_count, scan_start}
 use Rattle.finds.proofs.scan.Goals as goal
 
 pub loop-row-init : goal.loop-row-init

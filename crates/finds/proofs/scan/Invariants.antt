@@ -1,10 +1,8 @@
-use borrow.Author.Rules.{rules}
-use native.Mathlib.Omega.{arith}
-use mathlib.Core.Path.{◌≡◌, sym, ◌∙◌}
+use mathlib.Core.Path.{◌≡◌}
 use Prim.Native.Nat.{◌≤◌, ◌-◌}
 use Rattle.kinds.specs.Versions.{version_at}
 use Rattle.finds.specs.declared.Listing.TheVariants.{Rows}
-use Rattle.finds.specs.Sweep.{note, sweep, remaining, scan_end, scan_stops, scan_goes, scan_count, scan_start}
+use Rattle.finds.specs.Sweep.{note, sweep, remaining}
 use Rattle.finds.proofs.scan.Given as goal
 
 abbrev pub invariant-loop-row : goal.invariant-loop-row

@@ -2,7 +2,6 @@ use mathlib.Core.Path.{sym, ap, ◌∙◌}
 use Rattle.kinds.specs.Versions.{version_at}
 use Rattle.reads.specs.Sights.{told, fresh_room}
 use Rattle.finds.specs.Sweep.{step_blocked, step_known, step_fresh}
-use borrow.Author.Rules.{rules}
 use Rattle.finds.proofs.step.Goals as goal
 
 pub add_record-requires : goal.add_record-requires

@@ -1,5 +1,4 @@
 use borrow.Author.Tests.{eq-eqb, ne_eqb}
-use borrow.Author.Rules.{rules}
 use Rattle.finds.proofs.step_marked.Goals as goal
 
 pub returns-then-mark-eq0 : goal.returns-then-mark-eq0

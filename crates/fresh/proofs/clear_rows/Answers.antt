@@ -1,10 +1,9 @@
 use Rattle.fresh.specs.StoreLaws.{fill_turn, fill_end}
 use lib.Seq.{sets}
-use lib.ListN.{length, length-set, replicate}
-use borrow.Author.Rules.{rules}
+use lib.ListN.{length-set, replicate}
 use native.Mathlib.Omega.{arith}
 use mathlib.Core.Path.{◌≡◌, refl, sym, ◌∙◌, ap}
-use Prim.Native.Nat.{◌-◌, ◌≤◌, min}
+use Prim.Native.Nat.{◌-◌}
 use Rattle.fresh.proofs.clear_rows.Goals as goal
 
 pub loop-i-init : goal.loop-i-init

@@ -1,9 +1,6 @@
-use Rattle.fresh.specs.StoreLaws.{fill_turn, fill_end}
 use lib.Seq.{sets}
-use lib.ListN.{length, length-set, replicate}
-use borrow.Author.Rules.{rules}
-use native.Mathlib.Omega.{arith}
-use mathlib.Core.Path.{◌≡◌, refl, sym, ◌∙◌, ap}
+use lib.ListN.{length, replicate}
+use mathlib.Core.Path.{◌≡◌}
 use Prim.Native.Nat.{◌-◌, ◌≤◌, min}
 use Rattle.fresh.proofs.clear_rows.Given as goal
 

@@ -1,10 +1,8 @@
-use Rattle.fresh.specs.StoreLaws.{cleared_from, cleared_all, cleared_turn, cleared_end}
+use Rattle.fresh.specs.StoreLaws.{cleared_all, cleared_turn, cleared_end}
 use Rattle.words.specs.Sizes.{base}
-use lib.ListN.{length, length-set}
-use borrow.Author.Rules.{rules}
+use lib.ListN.{length-set}
 use native.Mathlib.Omega.{arith}
-use mathlib.Core.Path.{◌≡◌, refl, sym, ◌∙◌}
-use Prim.Native.Nat.{◌-◌, ◌≤◌, min}
+use mathlib.Core.Path.{refl, sym, ◌∙◌}
 use Rattle.fresh.proofs.clear_slots.Goals as goal
 
 pub loop-i-init : goal.loop-i-init

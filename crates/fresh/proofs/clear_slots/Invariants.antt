@@ -1,9 +1,7 @@
-use Rattle.fresh.specs.StoreLaws.{cleared_from, cleared_all, cleared_turn, cleared_end}
+use Rattle.fresh.specs.StoreLaws.{cleared_from}
 use Rattle.words.specs.Sizes.{base}
-use lib.ListN.{length, length-set}
-use borrow.Author.Rules.{rules}
-use native.Mathlib.Omega.{arith}
-use mathlib.Core.Path.{◌≡◌, refl, sym, ◌∙◌}
+use lib.ListN.{length}
+use mathlib.Core.Path.{◌≡◌}
 use Prim.Native.Nat.{◌-◌, ◌≤◌, min}
 use Rattle.fresh.proofs.clear_slots.Given as goal
 

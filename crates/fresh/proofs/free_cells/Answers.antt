@@ -2,11 +2,9 @@ use Rattle.fresh.specs.StoreLaws.{fresh_turn, fresh_end}
 use Rattle.kinds.specs.Versions.{words_of}
 use Rattle.rules.specs.Create.{fresh_cells}
 use lib.Seq.{sets}
-use lib.ListN.{length, length-set}
-use borrow.Author.Rules.{rules}
+use lib.ListN.{length-set}
 use native.Mathlib.Omega.{arith}
-use mathlib.Core.Path.{◌≡◌, refl, sym, ◌∙◌, ap}
-use Prim.Native.Nat.{◌+◌, ◌-◌, ◌≤◌, min}
+use mathlib.Core.Path.{refl, sym, ◌∙◌, ap}
 use Rattle.fresh.proofs.free_cells.Goals as goal
 
 pub loop-i-init : goal.loop-i-init

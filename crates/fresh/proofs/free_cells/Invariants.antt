@@ -1,11 +1,7 @@
-use Rattle.fresh.specs.StoreLaws.{fresh_turn, fresh_end}
-use Rattle.kinds.specs.Versions.{words_of}
 use Rattle.rules.specs.Create.{fresh_cells}
 use lib.Seq.{sets}
-use lib.ListN.{length, length-set}
-use borrow.Author.Rules.{rules}
-use native.Mathlib.Omega.{arith}
-use mathlib.Core.Path.{◌≡◌, refl, sym, ◌∙◌, ap}
+use lib.ListN.{length}
+use mathlib.Core.Path.{◌≡◌}
 use Prim.Native.Nat.{◌+◌, ◌-◌, ◌≤◌, min}
 use Rattle.fresh.proofs.free_cells.Given as goal
 

@@ -1,5 +1,4 @@
 use borrow.Author.Tests.{le-leb, lt-leb}
-use borrow.Author.Rules.{rules}
 use Rattle.fresh.proofs.link_after.Goals as goal
 
 pub returns-then-c-n : goal.returns-then-c-n

@@ -1,12 +1,8 @@
 use Rattle.fresh.specs.StoreLaws.{list_turn, list_end}
-use Rattle.words.specs.Sizes.{meta_words}
 use mathlib.Core.List.{[], ◌∷◌}
-use lib.Seq.{sets}
-use lib.ListN.{length, length-set, drop}
-use borrow.Author.Rules.{rules}
+use lib.ListN.{length-set}
 use native.Mathlib.Omega.{arith}
-use mathlib.Core.Path.{◌≡◌, refl, sym, ◌∙◌}
-use Prim.Native.Nat.{◌-◌, ◌≤◌, min}
+use mathlib.Core.Path.{refl, sym, ◌∙◌}
 use Rattle.fresh.proofs.start.Goals as goal
 
 pub loop-i-init : goal.loop-i-init

@@ -1,11 +1,8 @@
-use Rattle.fresh.specs.StoreLaws.{list_turn, list_end}
 use Rattle.words.specs.Sizes.{meta_words}
 use mathlib.Core.List.{[], ◌∷◌}
 use lib.Seq.{sets}
-use lib.ListN.{length, length-set, drop}
-use borrow.Author.Rules.{rules}
-use native.Mathlib.Omega.{arith}
-use mathlib.Core.Path.{◌≡◌, refl, sym, ◌∙◌}
+use lib.ListN.{length, drop}
+use mathlib.Core.Path.{◌≡◌}
 use Prim.Native.Nat.{◌-◌, ◌≤◌, min}
 use Rattle.fresh.proofs.start.Given as goal
 

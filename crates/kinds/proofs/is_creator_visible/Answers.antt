@@ -1,7 +1,6 @@
 use Rattle.kinds.specs.Visible.{creator_visible}
 use Rattle.words.specs.Slots.{slot_of}
 use borrow.Author.Tests.{eq-eqb, ne_eqb, lt-ltb, le-ltb}
-use borrow.Author.Rules.{rules}
 use Rattle.kinds.proofs.is_creator_visible.Goals as goal
 
 pub returns-then-x-eq0 : goal.returns-then-x-eq0

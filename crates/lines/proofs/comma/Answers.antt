@@ -1,7 +1,5 @@
 use native.Mathlib.Omega.{arith}
-use lib.ListN.{length}
-use Prim.Native.Nat.{◌-◌, ◌≤◌}
-use Rattle.lines.specs.Fields.{Passed, passed_none, passed_more, cut_comma, cut_end}
+use Rattle.lines.specs.Fields.{passed_none, passed_more, cut_comma, cut_end}
 use Rattle.lines.proofs.comma.Goals as goal
 
 pub loop-i-init : goal.loop-i-init

@@ -1,7 +1,6 @@
-use native.Mathlib.Omega.{arith}
 use lib.ListN.{length}
 use Prim.Native.Nat.{◌-◌, ◌≤◌}
-use Rattle.lines.specs.Fields.{Passed, passed_none, passed_more, cut_comma, cut_end}
+use Rattle.lines.specs.Fields.{Passed}
 use Rattle.lines.proofs.comma.Given as goal
 
 abbrev pub invariant-loop-i : goal.invariant-loop-i

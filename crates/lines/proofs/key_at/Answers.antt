@@ -1,7 +1,6 @@
 use Rattle.lines.proofs.Others.{others_end}
 use Rattle.lines.specs.Calls.{ending}
 use Rattle.lines.specs.Fields.{key_empty, key_bad, key_last, key_more}
-use borrow.Author.Rules.{rules}
 use Rattle.lines.proofs.key_at.Goals as goal
 
 pub returns-in_default : goal.returns-in_default

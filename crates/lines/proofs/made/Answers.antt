@@ -1,6 +1,5 @@
 use Rattle.lines.specs.Lines.{done, keyed}
 use Rattle.lines.specs.Calls.{ending}
-use borrow.Author.Rules.{rules}
 use Rattle.lines.proofs.made.Goals as goal
 
 pub returns-in-Store : goal.returns-in-Store

@@ -1,6 +1,5 @@
 use mathlib.Core.Path.{sym, ◌∙◌}
 use Rattle.lines.specs.Fields.{field_none, field_is, field_bad}
-use borrow.Author.Rules.{rules}
 use Rattle.lines.proofs.number_at.Goals as goal
 
 pub returns-then-at-s : goal.returns-then-at-s

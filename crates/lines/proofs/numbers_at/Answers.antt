@@ -1,8 +1,6 @@
-use borrow.Author.Rules.{rules}
 use native.Mathlib.Omega.{arith}
-use lib.ListN.{length}
-use Prim.Native.Nat.{◌-◌, ◌≤◌}
-use Rattle.lines.specs.Fields.{step_end, Going, going_none, going_end, going_bad, going_more}
+use Prim.Native.Nat.{◌-◌}
+use Rattle.lines.specs.Fields.{step_end, going_none, going_end, going_bad, going_more}
 use Rattle.lines.proofs.numbers_at.Goals as goal
 
 pub loop-left-init : goal.loop-left-init

@@ -2,7 +2,6 @@ use lib.Seq.{length-take-le}
 use mathlib.Core.Path.{sym, ◌∙◌}
 use Rattle.lines.specs.Calls.{means, means_all}
 use Rattle.lines.specs.Fields.{counted_more}
-use borrow.Author.Rules.{rules}
 use Rattle.lines.proofs.parse_line.Goals as goal
 
 pub slice_bounds-word_of-end : goal.slice_bounds-word_of-end

@@ -1,9 +1,6 @@
 use native.Mathlib.Omega.{arith}
-use mathlib.Core.Path.{◌≡◌, refl, sym, ◌∙◌}
-use lib.ListN.{length, drop}
-use Prim.Native.Nat.{◌-◌, ◌≤◌}
+use mathlib.Core.Path.{refl, sym, ◌∙◌}
 use Rattle.lines.specs.Words.{same_lengths, same_done, same_differ, same_step}
-use Rattle.lines.specs.Lines as Lines
 use Rattle.lines.proofs.same.Goals as goal
 
 pub returns-then-s-w : goal.returns-then-s-w

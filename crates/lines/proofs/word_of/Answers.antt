@@ -1,6 +1,5 @@
 use mathlib.Core.Path.{sym, ◌∙◌}
 use Rattle.lines.specs.Lines.{word_of}
-use borrow.Author.Rules.{rules}
 use Rattle.lines.proofs.word_of.Goals as goal
 
 pub returns-then-same : goal.returns-then-same

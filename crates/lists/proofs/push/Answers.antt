@@ -1,6 +1,5 @@
 use Rattle.words.specs.Slots.{push}
 use mathlib.Core.Path.{refl}
-use borrow.Author.Rules.{rules}
 use Rattle.lists.proofs.push.Goals as goal
 
 pub returns : goal.returns

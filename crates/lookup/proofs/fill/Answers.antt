@@ -1,9 +1,7 @@
 use native.Mathlib.Omega.{arith}
-use mathlib.Core.Path.{◌≡◌, refl, sym, ◌∙◌}
+use mathlib.Core.Path.{refl, sym, ◌∙◌}
 use Rattle.lookup.specs.FillLaws.{fill_next, fill_end}
-use lib.Seq.{sets}
-use lib.ListN.{length, drop, take, length-set}
-use Prim.Native.Nat.{◌≤◌, ◌-◌}
+use lib.ListN.{length-set}
 use Rattle.lookup.proofs.fill.Goals as goal
 
 pub loop-i-init : goal.loop-i-init

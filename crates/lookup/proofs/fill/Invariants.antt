@@ -1,8 +1,6 @@
-use native.Mathlib.Omega.{arith}
-use mathlib.Core.Path.{◌≡◌, refl, sym, ◌∙◌}
-use Rattle.lookup.specs.FillLaws.{fill_next, fill_end}
+use mathlib.Core.Path.{◌≡◌}
 use lib.Seq.{sets}
-use lib.ListN.{length, drop, take, length-set}
+use lib.ListN.{length, drop, take}
 use Prim.Native.Nat.{◌≤◌, ◌-◌}
 use Rattle.lookup.proofs.fill.Given as goal
 

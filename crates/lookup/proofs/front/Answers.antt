@@ -2,7 +2,6 @@ use native.Mathlib.Omega.{arith}
 use mathlib.Core.Path.{sym}
 use lib.ListN.{length-take}
 use lib.Seq.{take_all}
-use borrow.Author.Rules.{rules}
 use Rattle.lookup.proofs.front.Goals as goal
 
 pub returns-then-buffer-count : goal.returns-then-buffer-count

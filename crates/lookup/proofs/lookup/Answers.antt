@@ -2,7 +2,6 @@ use mathlib.Core.Path.{sym, ◌∙◌}
 use Rattle.rules.specs.Memory.{mem}
 use Rattle.lookup.specs.CallLaws.{lookup_refused, lookup_goes_on}
 use Rattle.lookup.specs.LookupRest.{filled_is, filled_refused}
-use borrow.Author.Rules.{rules}
 use Rattle.lookup.proofs.lookup.Goals as goal
 
 pub returns-in-Refused : goal.returns-in-Refused

@@ -1,7 +1,6 @@
 use Rattle.rules.specs.Memory.{mem}
 use Rattle.lookup.specs.CallLaws.{search_all}
 use Rattle.lookup.specs.LookupRest.{filled_is}
-use borrow.Author.Rules.{rules}
 use Rattle.lookup.proofs.lookup_all.Goals as goal
 
 pub returns : goal.returns

@@ -4,7 +4,6 @@ use Rattle.words.specs.Lists.{fold}
 use Rattle.rules.specs.Memory.{mem}
 use Rattle.lookup.specs.CallLaws.{search_rows}
 use Rattle.lookup.specs.LookupRest.{filled_is}
-use borrow.Author.Rules.{rules}
 use Rattle.lookup.proofs.lookup_rows.Goals as goal
 
 pub returns : goal.returns

@@ -2,7 +2,6 @@ use Rattle.rules.specs.Memory.{mem}
 use Rattle.lookup.specs.RowLaws.{zeros, zeros_long}
 use lib.ListN.{length}
 use Rattle.lookup.specs.SearchLaws.{search_stopped, search_late, search_fits, search_listed}
-use borrow.Author.Rules.{rules}
 use Rattle.lookup.proofs.search.Goals as goal
 
 pub fill-requires : goal.fill-requires

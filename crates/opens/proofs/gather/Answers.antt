@@ -2,12 +2,11 @@ use lib.Dec.{eqb}
 use Rattle.opens.specs.PlaceLaws.{gather_turn, gather_end, place_le}
 use Rattle.slots.specs.OccupiedLaws.{rest}
 use Rattle.words.specs.Sizes.{base, ID}
-use lib.ListN.{length, get_or, take, set, length-set}
+use lib.ListN.{get_or, take, set, length-set}
 use mathlib.Core.List.{◌++◌, []}
-use Prim.Native.Nat.{ℕ, ◌+◌, ◌-◌, ◌≤◌, min}
-use mathlib.Core.Path.{◌≡◌, refl, ap, ◌∙◌}
+use Prim.Native.Nat.{ℕ, ◌+◌}
+use mathlib.Core.Path.{refl, ap, ◌∙◌}
 use native.Mathlib.Omega.{arith}
-use borrow.Author.Rules.{rules}
 use Rattle.opens.proofs.gather.Goals as goal
 
 pub loop-i-init : goal.loop-i-init

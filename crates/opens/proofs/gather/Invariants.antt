@@ -1,13 +1,9 @@
-use lib.Dec.{eqb}
-use Rattle.opens.specs.PlaceLaws.{gather_turn, gather_end, place_le}
 use Rattle.slots.specs.OccupiedLaws.{rest}
 use Rattle.words.specs.Sizes.{base, ID}
-use lib.ListN.{length, get_or, take, set, length-set}
-use mathlib.Core.List.{◌++◌, []}
-use Prim.Native.Nat.{ℕ, ◌+◌, ◌-◌, ◌≤◌, min}
-use mathlib.Core.Path.{◌≡◌, refl, ap, ◌∙◌}
-use native.Mathlib.Omega.{arith}
-use borrow.Author.Rules.{rules}
+use lib.ListN.{length, take}
+use mathlib.Core.List.{◌++◌}
+use Prim.Native.Nat.{◌-◌, ◌≤◌, min}
+use mathlib.Core.Path.{◌≡◌}
 use Rattle.opens.proofs.gather.Given as goal
 
 abbrev pub invariant-loop-i : goal.invariant-loop-i

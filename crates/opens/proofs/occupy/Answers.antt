@@ -1,5 +1,4 @@
 use Rattle.opens.specs.OpenedAt.{ids_at, opened_at_lem}
-use borrow.Author.Rules.{rules}
 use Rattle.opens.proofs.occupy.Goals as goal
 
 pub returns : goal.returns

@@ -1,6 +1,5 @@
 use Rattle.words.specs.Slots.{opened}
 use lib.Seq.{length-take-le}
-use borrow.Author.Rules.{rules}
 use Rattle.opens.proofs.open_slot.Goals as goal
 
 pub returns : goal.returns

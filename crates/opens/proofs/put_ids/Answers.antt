@@ -2,10 +2,9 @@ use Rattle.opens.specs.PlaceLaws.{store_turn, store_end}
 use Rattle.words.specs.Sizes.{ACTIVE}
 use lib.Seq.{sets, get_or-take}
 use lib.ListN.{take, drop, set, length-take}
-use Prim.Native.Nat.{ℕ, ◌+◌, ◌-◌, ◌≤◌}
-use mathlib.Core.Path.{◌≡◌, refl, sym, ap, ◌∙◌}
+use Prim.Native.Nat.{ℕ, ◌+◌}
+use mathlib.Core.Path.{refl, sym, ap, ◌∙◌}
 use native.Mathlib.Omega.{arith}
-use borrow.Author.Rules.{rules}
 use Rattle.opens.proofs.put_ids.Goals as goal
 
 pub loop-i-init : goal.loop-i-init

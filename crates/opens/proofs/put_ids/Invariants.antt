@@ -1,11 +1,8 @@
-use Rattle.opens.specs.PlaceLaws.{store_turn, store_end}
 use Rattle.words.specs.Sizes.{ACTIVE}
-use lib.Seq.{sets, get_or-take}
-use lib.ListN.{take, drop, set, length-take}
-use Prim.Native.Nat.{ℕ, ◌+◌, ◌-◌, ◌≤◌}
-use mathlib.Core.Path.{◌≡◌, refl, sym, ap, ◌∙◌}
-use native.Mathlib.Omega.{arith}
-use borrow.Author.Rules.{rules}
+use lib.Seq.{sets}
+use lib.ListN.{take, drop}
+use Prim.Native.Nat.{◌+◌, ◌-◌, ◌≤◌}
+use mathlib.Core.Path.{◌≡◌}
 use Rattle.opens.proofs.put_ids.Given as goal
 
 abbrev pub invariant-loop-i : goal.invariant-loop-i

@@ -1,6 +1,5 @@
 use mathlib.Core.Path.{refl}
 use Rattle.perform.specs.Laws.{acted_as, store_acted, begin_acted, commit_acted, abort_acted, other_acted}
-use borrow.Author.Rules.{rules}
 use Rattle.perform.proofs.act.Goals as goal
 
 pub returns-in-Store : goal.returns-in-Store

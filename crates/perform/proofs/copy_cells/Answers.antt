@@ -1,10 +1,8 @@
 use Rattle.perform.specs.Laws.{cells_none, cells_more}
-use Rattle.perform.specs.Perform.{cells_of}
 use native.Mathlib.Omega.{arith}
 use borrow.Author.Rules.{rules}
-use lib.ListN.{length, take, length-set}
+use lib.ListN.{length-set}
 use mathlib.Core.Path.{◌≡◌, refl}
-use Prim.Native.Nat.{◌≤◌, ◌-◌}
 use Rattle.perform.proofs.copy_cells.Goals as goal
 
 pub loop-i-init : goal.loop-i-init

@@ -1,9 +1,6 @@
-use Rattle.perform.specs.Laws.{cells_none, cells_more}
 use Rattle.perform.specs.Perform.{cells_of}
-use native.Mathlib.Omega.{arith}
-use borrow.Author.Rules.{rules}
-use lib.ListN.{length, take, length-set}
-use mathlib.Core.Path.{◌≡◌, refl}
+use lib.ListN.{length, take}
+use mathlib.Core.Path.{◌≡◌}
 use Prim.Native.Nat.{◌≤◌, ◌-◌}
 use Rattle.perform.proofs.copy_cells.Given as goal
 

@@ -1,5 +1,4 @@
 use Rattle.perform.specs.Laws.{delete_acted}
-use borrow.Author.Rules.{rules}
 use Rattle.perform.proofs.erase.Goals as goal
 
 pub returns : goal.returns

@@ -1,5 +1,4 @@
 use Rattle.perform.specs.Laws.{find_acted, found_told}
-use borrow.Author.Rules.{rules}
 use Rattle.perform.proofs.find.Goals as goal
 
 pub returns : goal.returns

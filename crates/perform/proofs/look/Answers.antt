@@ -1,5 +1,4 @@
 use Rattle.perform.specs.Laws.{read_acted}
-use borrow.Author.Rules.{rules}
 use Rattle.perform.proofs.look.Goals as goal
 
 pub returns : goal.returns

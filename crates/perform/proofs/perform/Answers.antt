@@ -1,7 +1,6 @@
 use native.Mathlib.Omega.{arith}
 use Rattle.perform.specs.Laws.{line_as, after_as, said_fits}
 use Rattle.answers.specs.Laws.{laid_as}
-use borrow.Author.Rules.{rules}
 use Rattle.perform.proofs.perform.Goals as goal
 
 pub returns : goal.returns

@@ -1,5 +1,4 @@
 use Rattle.perform.specs.Laws.{write_acted}
-use borrow.Author.Rules.{rules}
 use Rattle.perform.proofs.put.Goals as goal
 
 pub returns : goal.returns

@@ -2,7 +2,6 @@ use Rattle.perform.specs.Perform.{answer_text}
 use Rattle.kinds.specs.declared.Answer.{Answer}
 use mathlib.Core.Path.{sym, ap}
 use Rattle.answers.specs.Laws.{laid_as}
-use borrow.Author.Rules.{rules}
 use Rattle.perform.proofs.put_answer.Goals as goal
 
 pub returns-in-Done : goal.returns-in-Done

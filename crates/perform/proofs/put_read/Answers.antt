@@ -1,7 +1,6 @@
 use Rattle.perform.specs.Perform.{read_text}
 use mathlib.Core.Path.{sym, ap}
 use Rattle.answers.specs.Laws.{laid_as}
-use borrow.Author.Rules.{rules}
 use Rattle.perform.proofs.put_read.Goals as goal
 
 pub returns-in-None : goal.returns-in-None

@@ -3,7 +3,6 @@ use Rattle.perform.specs.Perform.{said_text}
 use Rattle.perform.specs.declared.Said.{Said}
 use mathlib.Core.Path.{sym, ap}
 use Rattle.answers.specs.Laws.{laid_as}
-use borrow.Author.Rules.{rules}
 use Rattle.perform.proofs.put_said.Goals as goal
 
 pub put_answer-requires-in-Listed : goal.put_answer-requires-in-Listed

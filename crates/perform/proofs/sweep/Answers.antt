@@ -1,5 +1,4 @@
 use Rattle.perform.specs.Laws.{swept_fits, swept_told, vacuum_acted}
-use borrow.Author.Rules.{rules}
 use Rattle.perform.proofs.sweep.Goals as goal
 
 pub copy_cells-requires : goal.copy_cells-requires

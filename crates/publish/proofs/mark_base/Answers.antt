@@ -1,6 +1,5 @@
 use Rattle.rules.specs.Commit.{mark_base}
 use borrow.Author.Tests.{eq-eqb, ne_eqb}
-use borrow.Author.Rules.{rules}
 use Rattle.publish.proofs.mark_base.Goals as goal
 
 pub returns-then-base-eq0 : goal.returns-then-base-eq0

@@ -1,13 +1,7 @@
 use Rattle.publish.specs.PublishLaws.{lent, left_none, left_step, left_in, still_in}
-use Rattle.rules.specs.Theory.Bridge.{AllIn}
-use Rattle.rules.specs.Commit.{publish_all}
-use Rattle.words.specs.Slots.{slot_of, threes, write}
-use Rattle.words.specs.Sizes.{base}
-use lib.ListN.{length}
-use Prim.Native.Nat.{◌+◌, ◌*◌, ◌-◌, ◌≤◌}
+use Rattle.words.specs.Slots.{slot_of}
 use native.Mathlib.Omega.{arith}
-use borrow.Author.Rules.{rules}
-use mathlib.Core.Path.{◌≡◌, refl, sym, ◌∙◌}
+use mathlib.Core.Path.{refl, sym, ◌∙◌}
 use Rattle.publish.proofs.publish_all.Goals as goal
 
 pub loop-left-init : goal.loop-left-init

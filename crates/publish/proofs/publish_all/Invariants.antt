@@ -1,13 +1,11 @@
-use Rattle.publish.specs.PublishLaws.{lent, left_none, left_step, left_in, still_in}
+use Rattle.publish.specs.PublishLaws.{lent}
 use Rattle.rules.specs.Theory.Bridge.{AllIn}
 use Rattle.rules.specs.Commit.{publish_all}
 use Rattle.words.specs.Slots.{slot_of, threes, write}
 use Rattle.words.specs.Sizes.{base}
 use lib.ListN.{length}
-use Prim.Native.Nat.{◌+◌, ◌*◌, ◌-◌, ◌≤◌}
-use native.Mathlib.Omega.{arith}
-use borrow.Author.Rules.{rules}
-use mathlib.Core.Path.{◌≡◌, refl, sym, ◌∙◌}
+use Prim.Native.Nat.{◌+◌, ◌*◌, ◌≤◌}
+use mathlib.Core.Path.{◌≡◌}
 use Rattle.publish.proofs.publish_all.Given as goal
 
 abbrev pub invariant-loop-left : goal.invariant-loop-left

@@ -1,5 +1,4 @@
 use Rattle.rules.specs.Commit.{publish}
-use borrow.Author.Rules.{rules}
 use Rattle.publish.proofs.publish_one.Goals as goal
 
 pub returns : goal.returns

@@ -1,7 +1,6 @@
 use Rattle.reads.specs.Found.{found_own, found_along, along_seen}
 use borrow.Author.Tests.{eq-eqb, ne_eqb, lt-leb, le-leb}
 use mathlib.Core.Path.{sym, ap, ◌∙◌}
-use borrow.Author.Rules.{rules}
 use Rattle.reads.proofs.find_row.Goals as goal
 
 pub returns-then-c-eq0 : goal.returns-then-c-eq0

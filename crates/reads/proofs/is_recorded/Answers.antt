@@ -2,10 +2,9 @@ use Rattle.reads.specs.OwnLaws.{recorded_done, recorded_here, recorded_next}
 use Rattle.rules.specs.Read.{recorded}
 use Rattle.words.specs.Slots.{rec, threes, slot_of}
 use Rattle.words.specs.Sizes.{base, READS}
-use Prim.Native.Nat.{ℕ, ◌+◌, ◌*◌, ◌≤◌}
-use mathlib.Core.Path.{◌≡◌, sym, ap, ◌∙◌}
+use Prim.Native.Nat.{ℕ, ◌+◌}
+use mathlib.Core.Path.{sym, ap, ◌∙◌}
 use native.Mathlib.Omega.{arith}
-use borrow.Author.Rules.{rules}
 use Rattle.reads.proofs.is_recorded.Goals as goal
 
 pub overflow_add-e : goal.overflow_add-e

@@ -1,11 +1,8 @@
-use Rattle.reads.specs.OwnLaws.{recorded_done, recorded_here, recorded_next}
 use Rattle.rules.specs.Read.{recorded}
 use Rattle.words.specs.Slots.{rec, threes, slot_of}
-use Rattle.words.specs.Sizes.{base, READS}
-use Prim.Native.Nat.{ℕ, ◌+◌, ◌*◌, ◌≤◌}
-use mathlib.Core.Path.{◌≡◌, sym, ap, ◌∙◌}
-use native.Mathlib.Omega.{arith}
-use borrow.Author.Rules.{rules}
+use Rattle.words.specs.Sizes.{base}
+use Prim.Native.Nat.{◌+◌, ◌*◌, ◌≤◌}
+use mathlib.Core.Path.{◌≡◌}
 use Rattle.reads.proofs.is_recorded.Given as goal
 
 abbrev pub invariant-loop-left : goal.invariant-loop-left

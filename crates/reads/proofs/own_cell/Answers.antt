@@ -3,10 +3,9 @@ use Rattle.reads.specs.Found.{own_of}
 use Rattle.rules.specs.Read.{own}
 use Rattle.words.specs.Slots.{write, threes, slot_of}
 use Rattle.words.specs.Sizes.{base, WRITES}
-use Prim.Native.Nat.{ℕ, ◌+◌, ◌≤◌}
-use mathlib.Core.Path.{◌≡◌, sym, ap, ◌∙◌}
+use Prim.Native.Nat.{ℕ, ◌+◌}
+use mathlib.Core.Path.{sym, ap, ◌∙◌}
 use native.Mathlib.Omega.{arith}
-use borrow.Author.Rules.{rules}
 use Rattle.reads.proofs.own_cell.Goals as goal
 
 pub loop-left-init : goal.loop-left-init

@@ -1,12 +1,8 @@
-use Rattle.reads.specs.OwnLaws.{own_here, own_back, own_none}
-use Rattle.reads.specs.Found.{own_of}
 use Rattle.rules.specs.Read.{own}
 use Rattle.words.specs.Slots.{write, threes, slot_of}
 use Rattle.words.specs.Sizes.{base, WRITES}
-use Prim.Native.Nat.{ℕ, ◌+◌, ◌≤◌}
-use mathlib.Core.Path.{◌≡◌, sym, ap, ◌∙◌}
-use native.Mathlib.Omega.{arith}
-use borrow.Author.Rules.{rules}
+use Prim.Native.Nat.{◌+◌, ◌≤◌}
+use mathlib.Core.Path.{◌≡◌}
 use Rattle.reads.proofs.own_cell.Given as goal
 
 abbrev pub invariant-loop-left : goal.invariant-loop-left

@@ -3,7 +3,6 @@ use Rattle.kinds.specs.Versions.{version_at}
 use Rattle.words.specs.Slots.{slot_of}
 use Rattle.words.specs.Sizes.{base}
 use mathlib.Core.Path.{sym, ap, ◌∙◌}
-use borrow.Author.Rules.{rules}
 use Rattle.reads.proofs.read_row.Goals as goal
 
 pub returns-in-Own : goal.returns-in-Own

@@ -5,8 +5,6 @@ use Rattle.words.specs.Sizes.{base}
 use borrow.Author.Tests.{le-leb, lt-leb}
 use native.Mathlib.Omega.{arith}
 use mathlib.Core.Path.{sym, ◌∙◌}
-use borrow.Author.Rules.{rules}
-use Rattle.reads.proofs.recording.Reads as reads
 use Rattle.reads.proofs.recording.Goals as goal
 
 pub returns-then-is_recorded : goal.returns-then-is_recorded

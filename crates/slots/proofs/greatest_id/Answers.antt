@@ -1,11 +1,9 @@
 use Rattle.words.specs.Lists.{greatest}
 use Rattle.slots.specs.OccupiedLaws.{rest, greatest_turn, greatest_end}
 use Rattle.words.specs.Sizes.{base, ID}
-use lib.ListN.{length}
-use Prim.Native.Nat.{◌+◌, ◌-◌, ◌≤◌, min, max}
-use mathlib.Core.Path.{◌≡◌, sym, ap, ◌∙◌}
+use Prim.Native.Nat.{◌+◌, max}
+use mathlib.Core.Path.{sym, ap, ◌∙◌}
 use native.Mathlib.Omega.{arith}
-use borrow.Author.Rules.{rules}
 use Rattle.slots.proofs.greatest_id.Goals as goal
 
 pub loop-i-init : goal.loop-i-init

@@ -4,7 +4,6 @@ use Rattle.words.specs.Sizes.{base, LOW}
 use lib.ListN.{take}
 use native.Mathlib.Omega.{arith}
 use mathlib.Core.Path.{ap, ◌∙◌}
-use borrow.Author.Rules.{rules}
 use Rattle.slots.proofs.horizon.Goals as goal
 
 pub returns-then-request-clock : goal.returns-then-request-clock

@@ -1,11 +1,9 @@
 use Rattle.words.specs.Lists as L
 use Rattle.slots.specs.OccupiedLaws.{rest, least_turn, least_end}
 use Rattle.words.specs.Sizes.{base}
-use lib.ListN.{length}
-use Prim.Native.Nat.{◌+◌, ◌-◌, ◌≤◌, min}
-use mathlib.Core.Path.{◌≡◌, refl, sym, ap, ◌∙◌}
+use Prim.Native.Nat.{◌+◌}
+use mathlib.Core.Path.{refl, sym, ap, ◌∙◌}
 use native.Mathlib.Omega.{arith}
-use borrow.Author.Rules.{rules}
 use Rattle.slots.proofs.least_word.Goals as goal
 
 pub loop-i-init : goal.loop-i-init

@@ -1,11 +1,9 @@
 use Rattle.words.specs.Lists as L
-use Rattle.slots.specs.OccupiedLaws.{rest, least_turn, least_end}
+use Rattle.slots.specs.OccupiedLaws.{rest}
 use Rattle.words.specs.Sizes.{base}
 use lib.ListN.{length}
-use Prim.Native.Nat.{◌+◌, ◌-◌, ◌≤◌, min}
-use mathlib.Core.Path.{◌≡◌, refl, sym, ap, ◌∙◌}
-use native.Mathlib.Omega.{arith}
-use borrow.Author.Rules.{rules}
+use Prim.Native.Nat.{◌-◌, ◌≤◌, min}
+use mathlib.Core.Path.{◌≡◌}
 use Rattle.slots.proofs.least_word.Given as goal
 
 abbrev pub invariant-loop-i : goal.invariant-loop-i

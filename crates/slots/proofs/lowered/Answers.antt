@@ -2,7 +2,6 @@ use Rattle.rules.specs.Snapshot.{occupied}
 use Rattle.words.specs.Lists.{least}
 use native.Mathlib.Omega.{arith}
 use borrow.Author.Tests.{eq-eqb, ne_eqb}
-use borrow.Author.Rules.{rules}
 use Rattle.slots.proofs.lowered.Goals as goal
 
 pub returns-then-slot-eq0 : goal.returns-then-slot-eq0

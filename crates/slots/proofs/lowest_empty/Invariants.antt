@@ -1,11 +1,8 @@
 use Rattle.rules.specs.Snapshot.{vacant}
-use Rattle.slots.specs.OccupiedLaws.{vacant_found, vacant_turn, vacant_end}
 use Rattle.words.specs.Sizes.{base}
 use lib.ListN.{length, drop, take}
 use Prim.Native.Nat.{◌+◌, ◌-◌, ◌≤◌, min}
 use mathlib.Core.Path.{◌≡◌}
-use native.Mathlib.Omega.{arith}
-use borrow.Author.Rules.{rules}
 use Rattle.slots.proofs.lowest_empty.Given as goal
 
 abbrev pub invariant-loop-i : goal.invariant-loop-i

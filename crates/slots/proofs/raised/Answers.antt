@@ -1,6 +1,5 @@
 use Rattle.slots.specs.OccupiedLaws.{greatest_one}
 use native.Mathlib.Omega.{arith}
-use borrow.Author.Rules.{rules}
 use Rattle.slots.proofs.raised.Goals as goal
 
 pub returns-then-floor-slot : goal.returns-then-floor-slot

@@ -2,7 +2,6 @@ use Rattle.slots.specs.OccupiedLaws.{top_over, snap_top_lem}
 use Rattle.words.specs.Sizes.{base}
 use lib.ListN.{take}
 use mathlib.Core.Path.{ap, ◌∙◌}
-use borrow.Author.Rules.{rules}
 use Rattle.slots.proofs.snapshot_of.Goals as goal
 
 pub returns : goal.returns

@@ -1,7 +1,6 @@
 use Rattle.starts.specs.BeginLaws.{begin_full, begin_spent, begin_done}
 use mathlib.Core.Path.{refl}
 use native.Mathlib.Omega.{arith}
-use borrow.Author.Rules.{rules}
 use Rattle.starts.proofs.begin.Goals as goal
 
 pub returns-then-s-ge-SLOTS : goal.returns-then-s-ge-SLOTS

@@ -1,7 +1,5 @@
-use borrow.Author.Tests.{not-true, not-false}
 use mathlib.Core.Path.{sym, ◌∙◌}
 use Rattle.starts.specs.CreateLaws.{create_refused, create_done}
-use borrow.Author.Rules.{rules}
 use Rattle.starts.proofs.create.Goals as goal
 
 pub returns-then-not-fits : goal.returns-then-not-fits

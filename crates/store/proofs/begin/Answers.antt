@@ -2,7 +2,6 @@ use Rattle.gate.proofs.FineLaws.{store_fine}
 use Rattle.store.specs.Tested.{tested_refused, tested_fine}
 use Rattle.starts.specs.BeginLaws.{begin_split}
 use mathlib.Core.Path.{sym, ◌∙◌}
-use borrow.Author.Rules.{rules}
 use Rattle.store.proofs.begin.Goals as goal
 
 pub begin-requires : goal.begin-requires

@@ -2,7 +2,6 @@ use Rattle.ends.specs.CommitRest.{commit_split}
 use Rattle.gate.proofs.FineLaws.{slot_fine}
 use Rattle.store.specs.Tested.{tested_refused, tested_fine}
 use mathlib.Core.Path.{sym, ◌∙◌}
-use borrow.Author.Rules.{rules}
 use Rattle.store.proofs.commit.Goals as goal
 
 pub commit-requires : goal.commit-requires

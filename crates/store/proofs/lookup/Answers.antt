@@ -2,7 +2,6 @@ use Rattle.lookup.specs.LookupRest.{lookup_split}
 use Rattle.gate.proofs.FineLaws.{slot_fine}
 use Rattle.store.specs.Tested.{tested_refused, tested_fine, told_over, told_refused}
 use mathlib.Core.Path.{sym, ◌∙◌}
-use borrow.Author.Rules.{rules}
 use Rattle.store.proofs.lookup.Goals as goal
 
 by_outcome_and_results_after : {A B : Type 0} → A × B → record { outcome : A; results_after : B }

@@ -2,7 +2,6 @@ use Rattle.vacuum.specs.Rest.{vacuum_split}
 use Rattle.gate.proofs.FineLaws.{store_fine}
 use Rattle.store.specs.Tested.{tested_refused, tested_fine, told_over, told_refused}
 use mathlib.Core.Path.{sym, ◌∙◌}
-use borrow.Author.Rules.{rules}
 use Rattle.store.proofs.vacuum.Goals as goal
 
 by_outcome_and_reports_after : {A B : Type 0} → A × B → record { outcome : A; reports_after : B }

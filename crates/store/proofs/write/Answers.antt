@@ -2,7 +2,6 @@ use Rattle.access.specs.WriteRest.{write_split}
 use Rattle.gate.proofs.FineLaws.{slot_fine}
 use Rattle.store.specs.Tested.{tested_refused, tested_fine}
 use mathlib.Core.Path.{sym, ◌∙◌}
-use borrow.Author.Rules.{rules}
 use Rattle.store.proofs.write.Goals as goal
 
 pub write-requires : goal.write-requires

@@ -1,15 +1,12 @@
-use Rattle.rules.proofs.TestLaws.{tests_done, tests_stop, tests_next}
 use Rattle.undo.specs.UndoLaws.{lent}
 use Rattle.rules.specs.Abort.{abort_tests}
 use Rattle.rules.specs.Verdicts.{verdict}
 use Rattle.rules.specs.Outcome.{each}
 use Rattle.words.specs.Slots.{slot_of, threes, write}
 use Rattle.words.specs.Sizes.{base}
-use Prim.Native.Nat.{◌+◌, ◌*◌, ◌-◌, ◌≤◌}
+use Prim.Native.Nat.{◌+◌, ◌*◌, ◌≤◌}
 use mathlib.Core.List.{[], ◌∷◌}
-use native.Mathlib.Omega.{arith}
-use borrow.Author.Rules.{rules}
-use mathlib.Core.Path.{◌≡◌, sym, ◌∙◌}
+use mathlib.Core.Path.{◌≡◌}
 use Rattle.undo.proofs.check_abort.Given as goal
 
 abbrev pub invariant-loop-left : goal.invariant-loop-left

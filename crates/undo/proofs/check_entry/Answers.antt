@@ -1,7 +1,6 @@
 use mathlib.Core.Path.{sym, ◌∙◌}
 use Rattle.rules.proofs.Verdicts.{verdict_fails, verdict_passes}
 use borrow.Author.Tests.{lt-ltb, le-ltb}
-use borrow.Author.Rules.{rules}
 use Rattle.undo.proofs.check_entry.Goals as goal
 
 pub returns-then-n-base : goal.returns-then-n-base

@@ -1,14 +1,8 @@
-use Rattle.undo.specs.UndoLaws.{lent, give_none, give_step, cells_left, still_cell}
-use Rattle.rules.specs.Theory.Bridge.{AllCells}
-use Rattle.rules.specs.Abort.{give_back, news}
-use Rattle.words.specs.Lists.{fold}
-use Rattle.words.specs.Slots.{slot_of, threes, write}
-use Rattle.words.specs.Sizes.{base}
-use lib.ListN.{length}
-use Prim.Native.Nat.{◌+◌, ◌*◌, ◌-◌, ◌≤◌}
+use Rattle.undo.specs.UndoLaws.{give_none, give_step, cells_left, still_cell}
+use Rattle.rules.specs.Abort.{give_back}
+use Rattle.words.specs.Slots.{slot_of}
 use native.Mathlib.Omega.{arith}
-use borrow.Author.Rules.{rules}
-use mathlib.Core.Path.{◌≡◌, refl, sym, ◌∙◌}
+use mathlib.Core.Path.{refl, sym, ◌∙◌}
 use Rattle.undo.proofs.give_all.Goals as goal
 
 pub loop-left-init : goal.loop-left-init

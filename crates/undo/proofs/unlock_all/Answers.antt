@@ -1,14 +1,7 @@
 use Rattle.undo.specs.UndoLaws.{unlock_none, unlock_step, bases_left}
-use Rattle.rules.specs.Theory.Bridge.{BasesIn}
-use Rattle.rules.specs.Abort.{unlock_base}
-use Rattle.words.specs.Lists.{fold}
-use Rattle.words.specs.Slots.{slot_of, threes, write}
-use Rattle.words.specs.Sizes.{base}
-use lib.ListN.{length}
-use Prim.Native.Nat.{◌+◌, ◌*◌, ◌-◌, ◌≤◌}
+use Rattle.words.specs.Slots.{slot_of}
 use native.Mathlib.Omega.{arith}
-use borrow.Author.Rules.{rules}
-use mathlib.Core.Path.{◌≡◌, refl, sym, ◌∙◌}
+use mathlib.Core.Path.{refl, sym, ◌∙◌}
 use Rattle.undo.proofs.unlock_all.Goals as goal
 
 pub loop-left-init : goal.loop-left-init

@@ -1,14 +1,11 @@
-use Rattle.undo.specs.UndoLaws.{unlock_none, unlock_step, bases_left}
 use Rattle.rules.specs.Theory.Bridge.{BasesIn}
 use Rattle.rules.specs.Abort.{unlock_base}
 use Rattle.words.specs.Lists.{fold}
 use Rattle.words.specs.Slots.{slot_of, threes, write}
 use Rattle.words.specs.Sizes.{base}
 use lib.ListN.{length}
-use Prim.Native.Nat.{◌+◌, ◌*◌, ◌-◌, ◌≤◌}
-use native.Mathlib.Omega.{arith}
-use borrow.Author.Rules.{rules}
-use mathlib.Core.Path.{◌≡◌, refl, sym, ◌∙◌}
+use Prim.Native.Nat.{◌+◌, ◌*◌, ◌≤◌}
+use mathlib.Core.Path.{◌≡◌}
 use Rattle.undo.proofs.unlock_all.Given as goal
 
 abbrev pub invariant-loop-left : goal.invariant-loop-left

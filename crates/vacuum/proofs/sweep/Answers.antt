@@ -3,7 +3,6 @@ use Rattle.kinds.specs.Versions.{value_of}
 use Rattle.kinds.specs.declared.Answer.TheVariants.{Vacuumed}
 use Rattle.kinds.specs.declared.Version.{Version}
 use mathlib.Core.Path.{ap, ◌∙◌}
-use borrow.Author.Rules.{rules}
 use Rattle.vacuum.proofs.sweep.Goals as goal
 
 by_ends_and_first_in_bounds : {A B : Type 0} → A × B → record { ends : A; first_in_bounds : B }

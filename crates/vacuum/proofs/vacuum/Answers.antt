@@ -5,7 +5,6 @@ use lib.ListN.{length}
 use native.Mathlib.Omega.{arith}
 use mathlib.Core.List.{[]}
 use mathlib.Core.Path.{refl}
-use borrow.Author.Rules.{rules}
 use Rattle.vacuum.proofs.vacuum.Goals as goal
 
 by_outcome_and_reports_after : {A B : Type 0} → A × B → record { outcome : A; reports_after : B }

@@ -1,11 +1,10 @@
 use Rattle.words.specs.WordLaws.{has_done, has_found, has_next}
 use Rattle.words.specs.Slots.{words, slot_of}
 use Rattle.words.specs.Lists.{has}
-use Rattle.words.specs.Sizes.{base, ACTIVE}
-use Prim.Native.Nat.{◌+◌, ◌≤◌}
-use mathlib.Core.Path.{◌≡◌, sym, ap, ◌∙◌}
+use Rattle.words.specs.Sizes.{ACTIVE}
+use Prim.Native.Nat.{◌+◌}
+use mathlib.Core.Path.{sym, ap, ◌∙◌}
 use native.Mathlib.Omega.{arith}
-use borrow.Author.Rules.{rules}
 use Rattle.words.proofs.is_active.Goals as goal
 
 pub loop-left-init : goal.loop-left-init

@@ -1,11 +1,8 @@
-use Rattle.words.specs.WordLaws.{has_done, has_found, has_next}
 use Rattle.words.specs.Slots.{words, slot_of}
 use Rattle.words.specs.Lists.{has}
-use Rattle.words.specs.Sizes.{base, ACTIVE}
+use Rattle.words.specs.Sizes.{base}
 use Prim.Native.Nat.{◌+◌, ◌≤◌}
-use mathlib.Core.Path.{◌≡◌, sym, ap, ◌∙◌}
-use native.Mathlib.Omega.{arith}
-use borrow.Author.Rules.{rules}
+use mathlib.Core.Path.{◌≡◌}
 use Rattle.words.proofs.is_active.Given as goal
 
 abbrev pub invariant-loop-left : goal.invariant-loop-left

@@ -7,9 +7,7 @@ use Rattle.words.specs.Sizes.{base}
 use Rattle.kinds.specs.declared.Version.{Version}
 use mathlib.Core.List.{[]}
 use mathlib.Core.Path.{sym, ap, ◌∙◌}
-use borrow.Author.Tests.{not-true, not-false}
 use native.Mathlib.Omega.{arith}
-use borrow.Author.Rules.{rules}
 use Rattle.writes.proofs.check_head.Goals as goal
 
 pub returns-then-word_at-head : goal.returns-then-word_at-head

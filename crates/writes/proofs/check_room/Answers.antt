@@ -3,7 +3,6 @@ use Rattle.words.specs.Sizes.{base, WRITES, FREE, CELLS}
 use lib.ListN.{get_or}
 use borrow.Author.Tests.{eq-eqb, ne_eqb, lt-ltb, le-ltb, le-leb, lt-leb}
 use native.Mathlib.Omega.{arith}
-use borrow.Author.Rules.{rules}
 use Rattle.writes.proofs.check_room.Goals as goal
 
 pub returns-then-entries : goal.returns-then-entries

@@ -1,7 +1,6 @@
 use Rattle.rules.specs.Write.{lock_base}
 use borrow.Author.Tests.{eq-eqb, ne_eqb}
 use native.Mathlib.Omega.{arith}
-use borrow.Author.Rules.{rules}
 use Rattle.writes.proofs.lock_base.Goals as goal
 
 pub returns-then-head-eq0 : goal.returns-then-head-eq0

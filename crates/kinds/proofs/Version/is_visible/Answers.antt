@@ -1,7 +1,6 @@
 use Rattle.kinds.specs.Visible.{visible}
-use borrow.Author.Tests.{eq-eqb, ne_eqb, not-true, not-false}
+use borrow.Author.Tests.{eq-eqb, ne_eqb}
 use mathlib.Core.Path.{sym, ◌∙◌}
-use borrow.Author.Rules.{rules}
 use Rattle.kinds.proofs.Version.is_visible.Goals as goal
 
 pub returns-then-not-is_creator_visible : goal.returns-then-not-is_creator_visible

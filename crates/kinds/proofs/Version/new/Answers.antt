@@ -1,4 +1,3 @@
-use borrow.Author.Rules.{rules}
 use Rattle.kinds.proofs.Version.new.Goals as goal
 
 pub returns : goal.returns

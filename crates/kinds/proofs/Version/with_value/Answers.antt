@@ -1,4 +1,3 @@
-use borrow.Author.Rules.{rules}
 use Rattle.kinds.proofs.Version.with_value.Goals as goal
 
 pub returns-in-Nothing : goal.returns-in-Nothing
