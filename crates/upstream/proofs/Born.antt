@@ -1,4 +1,4 @@
--- What upstream's terms ask of a store BeyondHere demand 3, over views: every version in a chain has a creator, no open transaction's id stands
+-- What upstream's terms ask of a store beyond demand 3, over views: every version in a chain has a creator, no open transaction's id stands
 -- in a chain as xmin, and a cell that is in no chain links to nothing. It is kept by each effect of a call.
 use Rattle.std.specs.Prelude.{ℕ, ◌<◌, ◌≤◌, ◌≢◌, ◌⊎◌, ◌≡◌, get_or}
 use mathlib.Core.List.{List, [], ◌∷◌}

@@ -110,7 +110,7 @@ snapshot_xmax_agrees now (x ∷ l) run lt =
     let g = greatest (x ∷ l) in
     by_bool (ltb (suc g) now) (λ e. rw e (omega (arith, ltb-true (suc g) now e))) (λ e. rw e (omega (arith, ltb-false (suc g) now e)))
 
--- .. and not BeyondHere: at the last id 000's number is no 64-bit number; with no slot and clock 0, which no store has, it is 1
+-- .. and not beyond: at the last id 000's number is no 64-bit number; with no slot and clock 0, which no store has, it is 1
 pub part_at_the_last_id : (snap_top 9 (last_id ∷ []) ≡ last_id) × (top_of 9 (greatest (last_id ∷ [])) ≡ suc last_id)
 unfolding greatest
 part_at_the_last_id = (refl, refl)
