@@ -1,15 +1,15 @@
 -- What is written of a piece, of an input and of its last record, from what is promised of each.
-use Rattle.std.specs.Prelude.{ℕ, ◌+◌, ◌<◌, ◌≤◌, ◌≡◌, Option, None, Some, IfSome, List, [], ◌++◌, length, take}
-use Rattle.std.specs.Io.KnownBytes.{Appends, Consumes, IsAtEnd}
+use Rattle.std.specs.Prelude.{ℕ, ◌+◌, ◌<◌, ◌≤◌, ◌≡◌, Option, None, Some, IfSome, Result, Ok, Err, OnErr, List, [], ◌++◌, length, take, drop}
+use Rattle.std.specs.Io.KnownBytes.{Appends, Consumes, Keeps, IsAtEnd}
 use Rattle.std.proofs.Common.{sym, ap, subst, ◌∙◌, arith, append_assoc, append-nil, length-append}
-use Rattle.std.proofs.KnownBytes.{Appends-nil, Appends-trans, Consumes-nil, Consumes-trans}
+use Rattle.std.proofs.KnownBytes.{Appends-nil, Appends-trans, Consumes-nil, Consumes-trans, Consumes-kept}
 use Rattle.words.specs.Sizes.{base, last_id}
 use Rattle.rules.specs.Memory.{Mem}
 use Rattle.digits.specs.Numbers.{Laid}
 use Rattle.pieces.specs.declared.Held.{Held}
 use Rattle.pieces.specs.Held.{Holds}
 use Rattle.pieces.specs.Laws.{between}
-use Rattle.pieces.proofs.Laws.{between_none, between_joins, between_all}
+use Rattle.pieces.proofs.Laws.{between_none, between_joins, between_rest, between_all}
 use Rattle.pieces.specs.Texts.{records}
 use Rattle.pieces.specs.Parts.{Parts, parts, behind}
 use Rattle.pieces.proofs.Parts.{no_end_no_part, parts_go_on, records_go_on}
@@ -19,7 +19,7 @@ use Rattle.player.specs.declared.Place.{Place}
 use Rattle.player.specs.Turns.{Answered}
 use Rattle.player.specs.Batches.{Taken, Batched, taken_none, taken_then}
 use Rattle.player.specs.Runs.{front_of_lem}
-use Rattle.player.specs.Written.{Wrote, Hearing, Heard, Replayed, Whole}
+use Rattle.player.specs.Written.{Wrote, Hearing, Heard, Replayed, Whole, Stopped, Failed, Unanswered}
 
 -- ---- a piece, from its start
 
@@ -60,6 +60,16 @@ module _ (z : Rooms) (p piece : List ℕ) where
   pub all_wrote : (from : ℕ) (m : Mem base) (was now : Option (List ℕ)) → length piece ≤ from → Wrote z p (between piece 0 from) m was now → Wrote z p piece m was now
   all_wrote from m was now l v = subst (λ (s : List ℕ). Wrote z p s m was now) (between_all piece 0 from (omega arith) l) v
 
+-- ---- a whole text: the records that ended, and the last one
+
+closed_and_rest : (s : List ℕ) → (parts s).closed ++ records (parts s).rest ≡ records s
+closed_and_rest s = ap (λ (l : List ℕ). (parts s).closed ++ records l) (sym (append-nil (parts s).rest)) ∙ sym (records_go_on [] s) ∙ ap records (append-nil s)
+
+all_performed : (z : Rooms) (s : List ℕ) (m k after : Mem base) → k ≡ memory_after z (parts s).closed m → after ≡ memory_after z (records (parts s).rest) k → after ≡ memory_after z (records s) m
+all_performed z s m k after x y =
+    y ∙ ap (memory_after z (records (parts s).rest)) x ∙ sym (memory_after_both z (parts s).closed (records (parts s).rest) m)
+    ∙ ap (λ (l : List (List ℕ)). memory_after z l m) (closed_and_rest s)
+
 -- ---- an input, from its start
 
 module _ (z : Rooms) (m : Mem base) (left was : Option (List ℕ)) where
@@ -97,8 +107,7 @@ module _ (z : Rooms) (m : Mem base) (left was : Option (List ℕ)) where
       → Replayed z m after left rest was now
   heard_rest y same f h k after b c at rest mid now x r n o =
       let a = subst (λ (j : Rooms). Answered j (records (parts x.s).rest) k after b c 0 at) same (r _ x.taken.holds) in
-      let e : (parts x.s).closed ++ records (parts x.s).rest ≡ records x.s =
-      ap (λ (l : List ℕ). (parts x.s).closed ++ records l) (sym (append-nil (parts x.s).rest)) ∙ sym (records_go_on [] x.s) ∙ ap records (append-nil x.s) in
+      let e : (parts x.s).closed ++ records (parts x.s).rest ≡ records x.s = closed_and_rest x.s in
       let q : replayed z (parts x.s).closed m ++ take at c ≡ replayed z (records x.s) m =
       ap (λ (l : List ℕ). replayed z (parts x.s).closed m ++ l) (front_of_lem a.lines n ∙ ap (replayed z (records (parts x.s).rest)) x.taken.memory)
       ∙ sym (replayed_both z (parts x.s).closed (records (parts x.s).rest) m) ∙ ap (λ (l : List (List ℕ)). replayed z l m) e in
@@ -106,8 +115,7 @@ module _ (z : Rooms) (m : Mem base) (left was : Option (List ℕ)) where
         s = x.s;
         read = x.read;
         ended = x.ended;
-        memory = a.memory ∙ ap (memory_after z (records (parts x.s).rest)) x.taken.memory
-            ∙ sym (memory_after_both z (parts x.s).closed (records (parts x.s).rest) m) ∙ ap (λ (l : List (List ℕ)). memory_after z l m) e;
+        memory = all_performed z x.s m k after x.taken.memory a.memory;
         written = subst (λ (l : List ℕ). Appends was now l) q (Appends-trans was mid now _ _ x.written o);
       }
 
@@ -120,3 +128,54 @@ replayed_whole z m after (Some t) (Some r) was now x = λ l.
     let n : length x.s < last_id = omega (arith, l, ap length x.read, length-append x.s r) in
     let e : x.s ≡ t = sym (x.read ∙ ap (λ (q : List ℕ). x.s ++ q) (x.ended n) ∙ append-nil x.s) in
     record { written = subst (λ (q : List ℕ). Appends was now (replayed z (records q) m)) e x.written; memory = subst (λ (q : List ℕ). after ≡ memory_after z (records q) m) e x.memory }
+
+-- ---- where a read or a write fails
+
+-- what holds anyway
+pub on_err_anyway : {T E P : Type 0} (r : Result T E) → P → OnErr r P
+on_err_anyway (Ok x) p = tt
+on_err_anyway (Err e) p = p
+
+-- after a batch
+pub stopped_in : (z : Rooms) (p piece : List ℕ) (from : ℕ) (front : List ℕ) (h : Held) (m after : Mem base) → Taken z p (between piece 0 from) front h m after → Stopped z p piece m after
+stopped_in z p piece from front h m after x = record { s = between piece 0 from; later = drop from piece; cut = sym (between_rest piece 0 from (omega arith)); memory = x.memory }
+
+module _ (z : Rooms) (m : Mem base) (left was : Option (List ℕ)) where
+  -- a read gave an error
+  pub failed_read : (turns : ℕ) (front : List ℕ) (h : Held) (after : Mem base) (mid rest now : Option (List ℕ)) → Hearing z turns front h m after left mid was now → Keeps mid rest → Failed z m after left rest
+  failed_read turns front h after mid rest now x k =
+      record {
+        text = x.s;
+        read = Consumes-kept left mid rest x.s x.read k;
+        stopped = record { s = x.s; later = []; cut = sym (append-nil x.s); memory = x.taken.memory };
+      }
+
+  -- or a write in a piece
+  pub failed_write : (y : Rooms) → y ≡ z → (turns : ℕ) (front : List ℕ) (h : Held) (k after : Mem base) (mid rest now : Option (List ℕ)) (v : List ℕ)
+      → Hearing z turns front h m k left mid was now → Consumes mid rest v → ((p : List ℕ) → Holds p front h → Stopped y p v k after) → Failed z m after left rest
+  failed_write y same turns front h k after mid rest now v x r t =
+      let w = subst (λ (j : Rooms). Stopped j (parts x.s).rest v k after) same (t _ x.taken.holds) in
+      let e : parts (x.s ++ w.s) ≡ behind (parts x.s).closed (parts ((parts x.s).rest ++ w.s)) = parts_go_on w.s x.s in
+      record {
+        text = x.s ++ v;
+        read = Consumes-trans left mid rest _ _ x.read r;
+        stopped = record {
+          s = x.s ++ w.s;
+          later = w.later;
+          cut = ap (λ (l : List ℕ). x.s ++ l) w.cut ∙ sym (append_assoc x.s w.s w.later);
+          memory = w.memory ∙ ap (memory_after z (parts ((parts x.s).rest ++ w.s)).closed) x.taken.memory
+              ∙ sym (memory_after_both z (parts x.s).closed (parts ((parts x.s).rest ++ w.s)).closed m) ∙ ap (λ (q : Parts). memory_after z q.closed m) (sym e);
+        };
+      }
+
+  -- or the last write
+  pub unanswered : (y : Rooms) → y ≡ z → (f : List ℕ) (h : Held) (k after : Mem base) (b c : List ℕ) (at : ℕ) (rest mid : Option (List ℕ))
+      → Heard z f h m k left rest was mid → ((p : List ℕ) → Holds p f h → Answered y (records p) k after b c 0 at) → Unanswered z m after left rest
+  unanswered y same f h k after b c at rest mid x r =
+      let a = subst (λ (j : Rooms). Answered j (records (parts x.s).rest) k after b c 0 at) same (r _ x.taken.holds) in
+      record {
+        s = x.s;
+        read = x.read;
+        ended = x.ended;
+        memory = all_performed z x.s m k after x.taken.memory a.memory;
+      }

@@ -2,7 +2,7 @@
 // written in large pieces. What is answered to a piece is written before the next is read, so that a caller behind a pipe does not wait.
 #![tactic(auto)]
 
-ghost use Rattle.std.specs.Prelude.{◌≡◌, List, ℕ, ◌+◌, ◌≤◌, length, drop, ◌<◌, IfOk, IfSome, OnOk};
+ghost use Rattle.std.specs.Prelude.{◌≡◌, List, ℕ, ◌+◌, ◌≤◌, length, drop, ◌<◌, IfOk, IfSome, OnOk, OnErr};
 ghost use Rattle.words.specs.Sizes.{last_id};
 ghost use Rattle.rules.specs.Lent.{mem_in, mem_out};
 ghost use Rattle.pieces.specs.Held.{Sane, Holds};
@@ -12,7 +12,7 @@ ghost use Rattle.perform.specs.Laws.{rooms, rooms_in};
 ghost use Rattle.player.specs.Sizes.{Lent, lent_cells, longest_answer};
 ghost use Rattle.player.specs.Turns.{Ready, Answered, Turned, Stands, Placed};
 ghost use Rattle.player.specs.Batches.{Taken, Batched, Moved};
-ghost use Rattle.player.specs.Written.{Wrote, Heard, Replayed, Whole};
+ghost use Rattle.player.specs.Written.{Wrote, Heard, Replayed, Whole, Stopped, Failed, Broken};
 
 use pieces::{Held, Next};
 use std::io;
@@ -147,6 +147,7 @@ fn play_piece<W: Write>(
     ensures still_sane { IfOk result (λ h. Sane (length front.old) h) }
     ensures taken { IfOk result (λ h. (p : List ℕ) → Holds p front.old held → Taken (rooms_in reports numbers) p piece.now front.new h (mem_in meta rows cells slots) (mem_out meta rows cells slots)) }
     ensures written { OnOk result ((p : List ℕ) → Holds p front.old held → Wrote (rooms_in reports numbers) p piece.now (mem_in meta rows cells slots) (W.contents output.old) (W.contents output.new)) }
+    ensures stopped { OnErr result ((p : List ℕ) → Holds p front.old held → Stopped (rooms_in reports numbers) p piece.now (mem_in meta rows cells slots) (mem_out meta rows cells slots)) }
 {
     let mut place = first_place(held);
     while place.from < piece.len() {
@@ -203,6 +204,7 @@ fn play_input<R: Read, W: Write>(
     ensures sane { IfOk result (λ h. Sane (length front.old) h) }
     ensures heard { IfOk result (λ h. Heard (rooms_in reports numbers) front.new h (mem_in meta rows cells slots) (mem_out meta rows cells slots)
         (R.remaining input.old) (R.remaining input.new) (W.contents output.old) (W.contents output.new)) }
+    ensures failed { OnErr result (Failed (rooms_in reports numbers) (mem_in meta rows cells slots) (mem_out meta rows cells slots) (R.remaining input.old) (R.remaining input.new)) }
 {
     let mut piece = [0u8; LARGE];
     let mut held = pieces::nothing();
@@ -243,6 +245,7 @@ pub fn play<R: Read, W: Write>(
         (R.remaining input.old) (R.remaining input.new) (W.contents output.old) (W.contents output.new)) }
     ensures whole { OnOk result (IfSome (R.remaining input.old) (λ text. length text < last_id
         → Whole (rooms lent_cells lent_cells) text (mem_in meta rows cells slots) (mem_out meta rows cells slots) (W.contents output.old) (W.contents output.new))) }
+    ensures failed { OnErr result (Broken (rooms lent_cells lent_cells) (mem_in meta rows cells slots) (mem_out meta rows cells slots) (R.remaining input.old) (R.remaining input.new)) }
 {
     let mut front = [0u8; RECORD];
     let mut reports = [[0u64; 3]; CELLS];

@@ -1,5 +1,5 @@
 use Rattle.std.proofs.Common.{arith, take, ◌-◌}
-use Rattle.player.proofs.Writing.{hearing_start, hearing_then}
+use Rattle.player.proofs.Writing.{hearing_start, hearing_then, on_err_anyway, failed_read, failed_write}
 use Rattle.player.proofs.play_input.Goals as goal
 
 pub loop-turns-init : goal.loop-turns-init
@@ -14,3 +14,12 @@ loop-turns-preserved g c =
       hearing_then _ _ _ _ _ (rw (c.loop-turns.auto.reports, c.loop-turns.auto.numbers)) c.loop-turns.turns (c.loop-turns.turns - 1) (omega (arith, c.loop-turns-test.true)) _ _ _ _ _ _ _ _ _ _ v
           i.1 c.in_ok-n.ensures.bytes.0 (omega (arith, c.in_ok-n.ensures.bound.1, c.if-n-eq0.false)) c.in_ok-held.ensures.taken c.in_ok-held.ensures.written,
     )
+
+pub returns-in_err-n-clause-failed : goal.returns-in_err-n-clause-failed
+returns-in_err-n-clause-failed g c = on_err_anyway _ (failed_read _ _ _ _ _ _ _ _ _ _ _ c.loop-turns.invariant.1 c.in_err-n.ensures.bytes)
+
+pub returns-in_err-held-clause-failed : goal.returns-in_err-held-clause-failed
+returns-in_err-held-clause-failed g c =
+    on_err_anyway _
+    (failed_write _ _ _ _ _ (rw (c.loop-turns.auto.reports, c.loop-turns.auto.numbers)) _ _ _ _ _ _ _ _ (take c.in_ok-n.n c.read.new.buf)
+    c.loop-turns.invariant.1 c.in_ok-n.ensures.bytes.0 c.in_err-held.ensures.stopped)

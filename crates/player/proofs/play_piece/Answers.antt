@@ -1,6 +1,8 @@
-use Rattle.std.proofs.Common.{arith, refl}
+use Rattle.std.proofs.Common.{List, ℕ, arith, refl}
+use Rattle.pieces.specs.Held.{Holds}
 use Rattle.player.specs.Batches.{taken_start, batch_then, all_taken}
-use Rattle.player.proofs.Writing.{wrote_start, wrote_then, all_wrote}
+use Rattle.player.specs.Written.{Stopped}
+use Rattle.player.proofs.Writing.{wrote_start, wrote_then, all_wrote, stopped_in, on_err_anyway}
 use Rattle.player.proofs.play_piece.Goals as goal
 
 pub loop-place-init : goal.loop-place-init
@@ -33,3 +35,13 @@ returns-clause-taken g c = λ p x. all_taken _ p c.args.piece.now _ _ _ _ _ c.lo
 
 pub returns-clause-written : goal.returns-clause-written
 returns-clause-written g c = λ p x. all_wrote _ p c.args.piece.now _ _ _ _ c.loop-place-test.false (c.loop-place.invariant.4 p (rw c.first_place-place.ensures.1.1 x))
+
+pub returns-in_err-write_all-clause-stopped : goal.returns-in_err-write_all-clause-stopped
+returns-in_err-write_all-clause-stopped g c =
+    let i = c.loop-place.invariant in
+    let w = c.play_batch-place.ensures.moved in
+    on_err_anyway {P = (p : List ℕ) → Holds p c.args.front.now c.args.held → Stopped _ p c.args.piece.now _ _} _
+    (λ p x.
+    let t = i.3 p (rw c.first_place-place.ensures.1.1 x) in
+    stopped_in _ p c.args.piece.now c.play_batch-place.result.from _ _ _ _
+    (batch_then _ p _ _ (rw (c.loop-place.auto.reports, c.loop-place.auto.numbers)) c.loop-place.place c.play_batch-place.result _ _ _ _ _ _ _ w.forward t (c.play_batch-place.ensures.batched _ t.holds)))
