@@ -4,14 +4,6 @@ use mathlib.Core.List.{◌∷◌}
 use native.Mathlib.Omega.{arith}
 use Rattle.answers.proofs.counted.Goals as goal
 
--- UNPLACED slice-aggregate-put-bytes
--- slice-aggregate-put-bytes : tie.Need-slice-aggregate-put-bytes
--- slice-aggregate-put-bytes c = search rules
-
--- UNPLACED slice-aggregate-put-bytes-2
--- slice-aggregate-put-bytes-2 : tie.Need-slice-aggregate-put-bytes-2
--- slice-aggregate-put-bytes-2 c = search rules
-
 pub put_fields-e-requires : goal.put_fields-e-requires
 put_fields-e-requires c = omega (arith, field_fits _ c.put_field-q.ensures, c.put_bytes-p.ensures.past, laid_length c.put_bytes-p.ensures, laid_length c.put_field-q.ensures)
 

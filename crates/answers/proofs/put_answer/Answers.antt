@@ -2,10 +2,6 @@ use native.Mathlib.Omega.{arith}
 use Rattle.answers.specs.Laws.{laid_length, list_fits, answered}
 use Rattle.answers.proofs.put_answer.Goals as goal
 
--- UNPLACED slice-aggregate-put-bytes
--- slice-aggregate-put-bytes : tie.Need-slice-aggregate-put-bytes
--- slice-aggregate-put-bytes c = search rules
-
 pub put_bytes-requires : goal.put_bytes-requires
 put_bytes-requires c = omega (arith, list_fits c.args.ns.now c.put_fields-q.ensures, c.put_bytes-p.ensures.past, laid_length c.put_bytes-p.ensures, laid_length c.put_fields-q.ensures)
 
