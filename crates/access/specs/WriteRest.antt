@@ -3,12 +3,11 @@ use Rattle.std.specs.Prelude.{ℕ, ◌≤◌, ◌<◌, not, refl, ◌≢◌, get
 use mathlib.Core.List.{List, [], ◌∷◌}
 use Rattle.std.proofs.Math.Option.{Option, none, some}
 use Rattle.std.proofs.Math.Path.{◌≡◌, sym}
-use Rattle.std.proofs.Common.{ap, ◌∙◌, arith}
-use borrow.Author.Tests.{le-leb, lt-leb, eq-eqb, ne_eqb, eqb-false, leb-false, ltb-false}
+use Rattle.std.proofs.Common.{ap, ◌∙◌}
+use borrow.Author.Tests.{le-leb, lt-leb, eqb-false, leb-false, ltb-false}
 use Rattle.kinds.specs.declared.Cell.{Cell}
-use Rattle.kinds.specs.declared.Answer.{Answer}
-use Rattle.kinds.specs.declared.Answer.TheVariants.{Done, Wrote}
-use Rattle.kinds.specs.declared.Verdict.{Verdict}
+use Rattle.kinds.specs.Answer.{Answer, Wrote}
+use Rattle.kinds.specs.Verdict.{Verdict}
 use Rattle.words.specs.Sizes.{Sizes, FREE, WRITES}
 use Rattle.rules.specs.Numbers.{bad_row, damaged}
 use Rattle.kinds.specs.Versions.{at, with_value, new_version, version_at, link_at, put_version, put_cell}
@@ -20,32 +19,27 @@ use Rattle.rules.proofs.Verdicts.{guard_fine, guard_refused, guard_append}
 use Rattle.rules.specs.Read.{own}
 use Rattle.rules.specs.Write.{lock_base, prepared, replaced, head_tests, write_now, write_out}
 use Rattle.rules.proofs.Theory.Cases.{by_bool}
-use Rattle.reads.specs.declared.Own.{Own}
+use Rattle.std.specs.Prelude.{Some, None}
 use Rattle.reads.specs.Found.{own_of}
 use Rattle.writes.specs.Room.{room_tests}
-
--- a verdict that is not fine, as an answer
-abbrev pub refused_by : Verdict → Answer
-refused_by Verdict.Fine = Done
-refused_by (Verdict.Refused k x) = Answer.Refused k x
 
 module _ {z : Sizes} (m : Mem z) where
   -- the own entry's cell is c
   unfoldable pub again_out : ℕ → Option ℕ → Outcome z Answer ℕ
   again_out c v = guard (refuse m) (test (not (is_cell (size_n m) c)) damaged 0 ∷ []) (out (Wrote (at c)) [] (replaced m c v))
 
-  pub again_none : (c : ℕ) (v : Option ℕ) → c ≡ 0 → refuse m damaged 0 ≡ again_out c v
-  unfolding again_out guard
-  again_none c v e = rw (eq-eqb c 0 e)
+  -- the test of its cell
+  abbrev cells : ℕ → Verdict
+  cells c = verdict (test (not (is_cell (size_n m) c)) damaged 0 ∷ [])
 
-  pub again_past : (c : ℕ) (v : Option ℕ) → c ≢ 0 → size_n m < c → refuse m damaged 0 ≡ again_out c v
-  unfolding again_out guard
-  again_past c v n h = rw (ne_eqb c 0 n, lt-leb c (size_n m) h)
+  pub again_refused : (c : ℕ) (v : Option ℕ) (k x : ℕ) → cells c ≡ Verdict.Refused k x → refuse m k x ≡ again_out c v
+  unfolding again_out
+  again_refused c v k x e = sym (guard_refused (refuse m) _ _ k x e)
 
-  pub again_done : (c : ℕ) (v : Option ℕ) (cs : List (List ℕ)) → c ≢ 0 → c ≤ size_n m → cs ≡ put_version m.cells c (with_value (version_at m.cells c) v)
+  pub again_done : (c : ℕ) (v : Option ℕ) (cs : List (List ℕ)) → cells c ≡ Verdict.Fine → cs ≡ put_version m.cells c (with_value (version_at m.cells c) v)
       → out (Wrote (at c)) [] (mem m.meta m.rows cs m.slots) ≡ again_out c v
-  unfolding again_out guard
-  again_done c v cs n h e = rw (ne_eqb c 0 n, le-leb c (size_n m) h, e)
+  unfolding again_out
+  again_done c v cs f e = rw e (sym (guard_fine (refuse m) _ _ f))
 
   module _ (s id row : ℕ) (v : Option ℕ) where
     unfoldable pub write_rest : Outcome z Answer ℕ
@@ -63,21 +57,21 @@ module _ {z : Sizes} (m : Mem z) where
     unfolding write_rest guard
     in_row h = rw (lt-leb (size_r m) row h)
 
-    own_some : (o : Option Write) (c : Cell) → own_of o ≡ Own.At c → again_out c.0 v ≡ write_now m s id row v o
+    own_some : (o : Option Write) (c : Cell) → own_of o ≡ Some c → again_out c.0 v ≡ write_now m s id row v o
     unfolding again_out write_now
-    own_some none c e = absurd (let q : ◌≡◌ {A = ℕ} 0 1 = cc in omega arith)
+    own_some none c e = cc
     own_some (some w) c e =
         let q : at w.new ≡ c = cc in
         sym (ap (λ (d : Cell). guard (refuse m) (test (not (is_cell (size_n m) d.0)) damaged 0 ∷ []) (out (Wrote (at d.0)) [] (replaced m d.0 v))) q)
 
-    own_no : (o : Option Write) → own_of o ≡ Own.Nothing → write_now m s id row v none ≡ write_now m s id row v o
+    own_no : (o : Option Write) → own_of o ≡ None → write_now m s id row v none ≡ write_now m s id row v o
     own_no none e = refl
-    own_no (some w) e = absurd (let q : ◌≡◌ {A = ℕ} 0 1 = cc in omega arith)
+    own_no (some w) e = cc
 
-    pub write_own : row < size_r m → (c : Cell) → own_of (own (slot_at m s).writes row) ≡ Own.At c → again_out c.0 v ≡ write_rest
+    pub write_own : row < size_r m → (c : Cell) → own_of (own (slot_at m s).writes row) ≡ Some c → again_out c.0 v ≡ write_rest
     write_own h c e = own_some (own (slot_at m s).writes row) c e ∙ in_row h
 
-    pub write_first : row < size_r m → own_of (own (slot_at m s).writes row) ≡ Own.Nothing → write_now m s id row v none ≡ write_rest
+    pub write_first : row < size_r m → own_of (own (slot_at m s).writes row) ≡ None → write_now m s id row v none ≡ write_rest
     write_first h e = own_no (own (slot_at m s).writes row) e ∙ in_row h
 
     -- ---- no own entry
@@ -110,15 +104,15 @@ module _ {z : Sizes} (m : Mem z) where
     pub head_in : heads ≡ Verdict.Fine → head_at m row ≤ size_n m
     unfolding verdict head_tests
     head_in e = by_bool (ltb (size_n m) (head_at m row))
-        (λ b. absurd (let g = rw b at e in let q : ◌≡◌ {A = ℕ} 0 1 = cc in omega arith))
+        (λ b. let g = rw b at e in cc)
         (λ b. ltb-false (size_n m) (head_at m row) b)
 
     pub room_facts : rooms ≡ Verdict.Fine → (get_or (words_at m s) (WRITES z) 0 < z.writes) × (free m ≢ 0) × (free m ≤ size_n m)
     unfolding verdict
     room_facts e = by_bool (leb z.writes (get_or (words_at m s) (WRITES z) 0))
-        (λ b. absurd (let g = rw b at e in let q : ◌≡◌ {A = ℕ} 0 1 = cc in omega arith))
+        (λ b. let g = rw b at e in cc)
         (λ b. let e1 = rw b at e in by_bool (eqb (free m) 0)
-        (λ c. absurd (let g = rw c at e1 in let q : ◌≡◌ {A = ℕ} 0 1 = cc in omega arith))
+        (λ c. let g = rw c at e1 in cc)
         (λ c. let e2 = rw c at e1 in by_bool (ltb (size_n m) (free m))
-        (λ d. absurd (let g = rw d at e2 in let q : ◌≡◌ {A = ℕ} 0 1 = cc in omega arith))
+        (λ d. let g = rw d at e2 in cc)
         (λ d. (leb-false _ _ b, eqb-false _ _ c, ltb-false _ _ d))))

@@ -13,24 +13,22 @@ ghost use Rattle.rules.specs.Write.{write_now};
 ghost use Rattle.rules.specs.Lent.{lent};
 ghost use Rattle.gate.specs.FineLaws.{StoreFine, SlotFine};
 ghost use Rattle.access.specs.ReadRest.{read_rest};
-ghost use Rattle.access.specs.WriteRest.{refused_by, again_out, write_rest};
+ghost use Rattle.access.specs.WriteRest.{again_out, write_rest};
+ghost use Rattle.kinds.specs.Results.{reading, seen, wrote};
 
-use kinds::{Answer, Cell, ReadAnswer, Value, Verdict};
-use reads::{Own, Sight};
-use words::{BAD_ROW, CELL_WORDS, CELLS, DAMAGED, FREE, ROWS, TxId, WIDTH};
+use kinds::{Cell, Reading, Refusal};
+use reads::Sight;
+use words::{CELL_WORDS, CELLS, FREE, ROWS, TxId, WIDTH};
 
 // No version, a version without a key, or a key.
-fn answer_at(cells: &[[u64; CELL_WORDS]], c: Cell) -> ReadAnswer
-    ensures { result ≡ answer_at (version_at cells.now) c.0 }
+#[tactic(auto, unfolding(rules::specs::Read::answer_at))]
+fn answer_at(cells: &[[u64; CELL_WORDS]], c: Cell) -> Reading
+    ensures { reading result ≡ answer_at (version_at cells.now) c.0 }
 {
     if c.0 == 0 {
-        return ReadAnswer::None;
+        return Reading::None;
     }
-    let v = arena::version_at(cells, c);
-    if v.keyed == 0 {
-        return ReadAnswer::Empty;
-    }
-    ReadAnswer::Key(v.key)
+    arena::version_at(cells, c).reading()
 }
 
 pub fn read(
@@ -41,23 +39,19 @@ pub fn read(
     slot: u64,
     id: TxId,
     row: u64,
-) -> ReadAnswer
+) -> Result<Reading, Refusal>
     requires { SlotFine (mem {z = base} meta.now rows.now cells.now slots.old) slot id.0 }
-    ensures { out result [] (lent meta.now rows.now cells.now slots.new) ≡ read_rest (lent meta.now rows.now cells.now slots.old) slot row }
+    ensures { out (seen result) [] (lent meta.now rows.now cells.now slots.new) ≡ read_rest (lent meta.now rows.now cells.now slots.old) slot row }
 {
     if meta[ROWS] <= row {
-        return ReadAnswer::Refused {
-            number: BAD_ROW,
-            value: row,
-        };
+        return Err(Refusal::BadRow(row));
     }
     let s = slot as usize;
-    match reads::read_row(cells, meta[CELLS], &slots[s], Cell(rows[row as usize]), row) {
-        Sight::Blocked { number, value } => ReadAnswer::Refused { number, value },
-        Sight::Known(c) => answer_at(cells, c),
+    match reads::read_row(cells, meta[CELLS], &slots[s], Cell(rows[row as usize]), row)? {
+        Sight::Known(c) => Ok(answer_at(cells, c)),
         Sight::Fresh { cell, xmin } => {
             reads::add_record(&mut slots[s], row, cell, xmin);
-            answer_at(cells, cell)
+            Ok(answer_at(cells, cell))
         }
     }
 }
@@ -69,25 +63,14 @@ fn write_again(
     cells: &mut [[u64; CELL_WORDS]],
     slots: &[[u64; WIDTH]],
     c: Cell,
-    value: Value,
-) -> Answer
+    value: Option<u64>,
+) -> Result<Cell, Refusal>
     requires { StoreFine (mem {z = base} meta.now rows.now cells.old slots.now) }
-    ensures { out result [] (lent meta.now rows.now cells.new slots.now) ≡ again_out (lent meta.now rows.now cells.old slots.now) c.0 (given value) }
+    ensures { out (wrote result) [] (lent meta.now rows.now cells.new slots.now) ≡ again_out (lent meta.now rows.now cells.old slots.now) c.0 (given value) }
 {
-    if c.0 == 0 {
-        return Answer::Refused {
-            number: DAMAGED,
-            value: 0,
-        };
-    }
-    if meta[CELLS] < c.0 {
-        return Answer::Refused {
-            number: DAMAGED,
-            value: 0,
-        };
-    }
+    arena::check_cell(meta[CELLS], c)?;
     writes::replace(cells, c, value);
-    Answer::Wrote(c)
+    Ok(c)
 }
 
 // The row has no own entry: every test, then the base locked, a cell prepared, an entry added.
@@ -99,28 +82,23 @@ fn write_first(
     slot: u64,
     id: TxId,
     row: u64,
-    value: Value,
-) -> Answer
+    value: Option<u64>,
+) -> Result<Cell, Refusal>
     requires slot_fine { SlotFine (mem {z = base} meta.old rows.now cells.old slots.old) slot id.0 }
     requires row_bound { row < get_or meta.old words.ROWS 0 }
-    ensures { out result [] (lent meta.new rows.now cells.new slots.new) ≡ write_now (lent meta.old rows.now cells.old slots.old) slot id.0 row (given value) none }
+    ensures { out (wrote result) [] (lent meta.new rows.now cells.new slots.new) ≡ write_now (lent meta.old rows.now cells.old slots.old) slot id.0 row (given value) none }
 {
     let s = slot as usize;
     let head = Cell(rows[row as usize]);
-    let test = writes::check_head(meta, cells, &slots[s], id, row, head);
-    let Verdict::Fine = test else {
-        return refused(test);
-    };
-    let room = writes::check_room(meta, &slots[s]);
-    let Verdict::Fine = room else {
-        return refused(room);
-    };
+    writes::check_head(meta, cells, &slots[s], id, row, head)?;
+    writes::check_room(meta, &slots[s])?;
     let new = Cell(meta[FREE]);
     writes::prepare(meta, cells, head, id, value);
     writes::add_entry(&mut slots[s], row, head, new);
-    Answer::Wrote(new)
+    Ok(new)
 }
 
+#[tactic(auto, using(crate::specs::WriteRest::write_bad_row, crate::specs::WriteRest::write_own, crate::specs::WriteRest::write_first))]
 pub fn write(
     meta: &mut [u64],
     rows: &[u64],
@@ -129,29 +107,16 @@ pub fn write(
     slot: u64,
     id: TxId,
     row: u64,
-    value: Value,
-) -> Answer
+    value: Option<u64>,
+) -> Result<Cell, Refusal>
     requires { SlotFine (mem {z = base} meta.old rows.now cells.old slots.old) slot id.0 }
-    ensures { out result [] (lent meta.new rows.now cells.new slots.new) ≡ write_rest (lent meta.old rows.now cells.old slots.old) slot id.0 row (given value) }
+    ensures { out (wrote result) [] (lent meta.new rows.now cells.new slots.new) ≡ write_rest (lent meta.old rows.now cells.old slots.old) slot id.0 row (given value) }
 {
     if meta[ROWS] <= row {
-        return Answer::Refused {
-            number: BAD_ROW,
-            value: row,
-        };
+        return Err(Refusal::BadRow(row));
     }
     match reads::own_cell(&slots[slot as usize], row) {
-        Own::At(c) => write_again(meta, rows, cells, slots, c, value),
-        Own::Nothing => write_first(meta, rows, cells, slots, slot, id, row, value),
-    }
-}
-
-// A verdict that is not fine, as an answer.
-fn refused(v: Verdict) -> Answer
-    ensures { result ≡ refused_by v }
-{
-    match v {
-        Verdict::Fine => Answer::Done,
-        Verdict::Refused { number, value } => Answer::Refused { number, value },
+        Some(c) => write_again(meta, rows, cells, slots, c, value),
+        None => write_first(meta, rows, cells, slots, slot, id, row, value),
     }
 }

@@ -1,7 +1,9 @@
 -- Bytes put one after the other into a buffer.
-use Rattle.std.specs.Prelude.{ℕ, suc, ◌+◌, ◌*◌, ◌<◌, ◌≤◌, List, [], ◌∷◌, ◌++◌, ◌≡◌, refl, length, get_or, take, set}
+use Rattle.std.specs.Prelude.{ℕ, suc, ◌+◌, ◌-◌, ◌*◌, ◌<◌, ◌≤◌, List, [], ◌∷◌, ◌++◌, ◌≡◌, refl, length, get_or, take, drop, set}
 use Rattle.std.proofs.Common.{append-nil, append_assoc, sym, ap, ◌∙◌, add-zero, add-one, arith, length-append, take-suc, take_all}
-use Rattle.std.proofs.lemmas.List.Edits.{sets}
+use Rattle.std.proofs.lemmas.List.Edits.{sets, sets-eq}
+use Rattle.std.proofs.lemmas.Slice.{put_mid-paste}
+use borrow.Rule.Slice.PartMut.{put_mid}
 use Rattle.std.proofs.Math.Seq.{length-sets}
 use Rattle.digits.specs.Numbers.{Laid}
 use Rattle.digits.specs.Laws.{digits_fit}
@@ -16,9 +18,6 @@ sets_append l a (x ∷ s) t =
 -- nothing put
 pub laid_none : (b : List ℕ) (at : ℕ) → Laid b b at at []
 laid_none b at = record { bytes = refl; past = sym (add-zero at) }
-
-pub laid_start : (w b : List ℕ) (at : ℕ) → Laid b b at (at + 0) (take 0 w)
-laid_start w b at = record { bytes = refl; past = refl }
 
 -- one after the other
 pub laid_then : {a b c s t : List ℕ} {at m n : ℕ} → Laid a b at m s → Laid b c m n t → Laid a c at n (s ++ t)
@@ -39,15 +38,17 @@ laid_byte b at x = record { bytes = refl; past = refl }
 pub laid_length : {a b s : List ℕ} {at m : ℕ} → Laid a b at m s → length b ≡ length a
 laid_length {a} {b} {s} {at} {m} x = ap length x.bytes ∙ length-sets a at s
 
--- one byte more of w
-pub laid_more : (w a b : List ℕ) (at i : ℕ) → i < length w → Laid a b at (at + i) (take i w) → Laid a (set b (at + i) (get_or w i 0)) at (at + (i + 1)) (take (i + 1) w)
-laid_more w a b at i h x =
-    let e : take i w ++ (get_or w i 0 ∷ []) ≡ take (i + 1) w = rw (add-one i) (sym (take-suc w i 0 h)) in
-    let q : at + i + 1 ≡ at + (i + 1) = omega arith in
-    rw q at (laid_as (laid_then x (laid_byte b (at + i) (get_or w i 0))) e)
-
-pub laid_all : (w a b : List ℕ) (at i : ℕ) → length w ≤ i → Laid a b at (at + i) (take i w) → Laid a b at (at + i) w
-laid_all w a b at i h x = laid_as x (take_all i w h)
+-- w copied over as many bytes
+pub laid_copied : (a w l : List ℕ) (at : ℕ) → at + length w ≤ length a → l ≡ w → Laid a (put_mid at (at + length w - at) a l) at (at + length w) w
+laid_copied a w l at h e =
+    let n : length w ≡ at + length w - at = omega arith in
+    record {
+      bytes =
+          put_mid-paste at (at + length w - at) a l w (length w) e n refl
+          ∙ ap (λ (l : List ℕ). take at a ++ l ++ drop (at + length w) a) (take_all (length w) w (omega arith))
+          ∙ sym (sets-eq w a at h);
+      past = refl;
+    }
 
 -- ---- fields
 
@@ -62,9 +63,6 @@ fields_more ns i h = sym (rw (add-one i, take-suc ns i 0 h) (fields_snoc (take i
 pub fields_none : (ns : List ℕ) → fields (take 0 ns) ≡ []
 unfolding fields
 fields_none ns = refl
-
-pub fields_all : (ns : List ℕ) (i : ℕ) → length ns ≤ i → fields (take i ns) ≡ fields ns
-fields_all ns i h = ap fields (take_all i ns h)
 
 pub field_fits : {a b : List ℕ} {at m : ℕ} (n : ℕ) → Laid a b at m (field n) → m ≤ at + 21
 field_fits {a} {b} {at} {m} n x = omega (arith, x.past, digits_fit n)

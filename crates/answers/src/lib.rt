@@ -1,29 +1,24 @@
 // Answer lines of the replay program, put into a lent buffer from a place on. Each function answers the place after what it put.
 #![tactic(auto)]
 
-ghost use Rattle.std.specs.Prelude.{◌≡◌, [], ◌∷◌, ◌+◌, ◌*◌, ◌≤◌, length};
+ghost use Rattle.std.specs.Prelude.{[], ◌∷◌, ◌+◌, ◌*◌, ◌≤◌, length};
 ghost use Rattle.digits.specs.Numbers.{Laid};
 ghost use Rattle.answers.specs.Answers.{field, fields, answer, wOk, wNone, wEmpty, wKey, wRefused, span, room};
-
-const COMMA: u8 = 44;
 
 fn put_bytes(buf: &mut [u8], at: usize, w: &[u8]) -> usize
     requires { at + length w.now ≤ length buf.old }
     ensures { Laid buf.old buf.new at result w.now }
 {
-    let mut i = 0;
-    while i < w.len() {
-        buf[at + i] = w[i];
-        i += 1;
-    }
-    at + i
+    let end = at + w.len();
+    buf[at..end].copy_from_slice(w);
+    end
 }
 
 fn put_field(buf: &mut [u8], at: usize, n: u64) -> usize
     requires { at + span ≤ length buf.old }
     ensures { Laid buf.old buf.new at result (field n) }
 {
-    buf[at] = COMMA;
+    buf[at] = b',';
     digits::put(buf, at + 1, n)
 }
 
@@ -32,10 +27,8 @@ fn put_fields(buf: &mut [u8], at: usize, ns: &[u64]) -> usize
     ensures { Laid buf.old buf.new at result (fields ns.now) }
 {
     let mut p = at;
-    let mut i = 0;
-    while i < ns.len() {
-        p = put_field(buf, p, ns[i]);
-        i += 1;
+    for n in ns {
+        p = put_field(buf, p, *n);
     }
     p
 }
@@ -69,6 +62,7 @@ pub fn counted(buf: &mut [u8], at: usize, count: u64, ns: &[u64]) -> usize
     put_bytes(buf, e, b"\r\n")
 }
 
+#[tactic(auto, unfolding(crate::specs::Answers::answer, crate::specs::Answers::fields))]
 pub fn none(buf: &mut [u8], at: usize) -> usize
     requires { at + room 0 ≤ length buf.old }
     ensures { Laid buf.old buf.new at result (answer wNone []) }
@@ -76,6 +70,7 @@ pub fn none(buf: &mut [u8], at: usize) -> usize
     put_bytes(buf, at, b"none\r\n")
 }
 
+#[tactic(auto, unfolding(crate::specs::Answers::answer, crate::specs::Answers::fields))]
 pub fn empty(buf: &mut [u8], at: usize) -> usize
     requires { at + room 0 ≤ length buf.old }
     ensures { Laid buf.old buf.new at result (answer wEmpty []) }
@@ -87,8 +82,7 @@ pub fn key(buf: &mut [u8], at: usize, k: u64) -> usize
     requires { at + room 1 ≤ length buf.old }
     ensures { Laid buf.old buf.new at result (answer wKey (k ∷ [])) }
 {
-    let one = [k];
-    put_answer(buf, at, b"key", &one)
+    put_answer(buf, at, b"key", &[k])
 }
 
 // A refusal, by its number.
@@ -96,6 +90,5 @@ pub fn refused(buf: &mut [u8], at: usize, number: u64) -> usize
     requires { at + room 1 ≤ length buf.old }
     ensures { Laid buf.old buf.new at result (answer wRefused (number ∷ [])) }
 {
-    let one = [number];
-    put_answer(buf, at, b"refused", &one)
+    put_answer(buf, at, b"refused", &[number])
 }

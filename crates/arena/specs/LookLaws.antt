@@ -1,6 +1,6 @@
 -- The first visible version of a chain, pointer by pointer: what a walk knows at each of its ways out and at its step. The rules take
 -- the chain as a list first; a walk that stops early finds the same.
-use Prim.Native.Nat.{ℕ, zero, suc, ◌-◌, ◌≤◌, ◌<◌}
+use Prim.Native.Nat.{ℕ, zero, suc, ◌+◌, ◌-◌, ◌≤◌, ◌<◌}
 use Rattle.std.specs.Prelude.{true, false, ◌≡◌, refl, ◌≢◌}
 use native.Mathlib.Omega.{arith}
 use borrow.Author.Tests.{ne_eqb, lt-ltb, le-ltb}
@@ -30,9 +30,9 @@ module _ (n : ℕ) (t : Slot) (f : ℕ → Version) where
   look_found zero c z e h v = absurd (z refl)
   look_found (suc k) c z e h v = rw (ne_eqb c 0 e, le-ltb n c h, v)
 
-  pub look_next : (k c : ℕ) → k ≢ 0 → c ≢ 0 → c ≤ n → visible t (f c) ≡ false → look n t f k c ≡ look n t f (k - 1) (f c).next.0
+  -- the step of a walk that has taken i of w
+  pub look_next : (w i c : ℕ) → i < w → c ≢ 0 → c ≤ n → visible t (f c) ≡ false → look n t f (w - i) c ≡ look n t f (w - (i + 1)) (f c).next.0
   unfolding look chain first
-  look_next zero c z e h v = absurd (z refl)
-  look_next (suc k) c z e h v =
-      let q : suc k - 1 ≡ k = omega arith in
-      rw (ne_eqb c 0 e, le-ltb n c h, v, q)
+  look_next w i c h e b v =
+      let q : w - i ≡ suc (w - (i + 1)) = omega arith in
+      rw (q, ne_eqb c 0 e, le-ltb n c b, v)

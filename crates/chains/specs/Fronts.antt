@@ -4,7 +4,9 @@ use Rattle.std.proofs.Common.{add-one, sym, ◌∙◌, get_or-set_same, get_or-s
 use native.Mathlib.Omega.{arith}
 use Rattle.std.specs.Prelude.{List, [], ◌∷◌, ◌≡◌, refl, set}
 use Rattle.std.proofs.Math.Path.{ap}
-use Rattle.std.proofs.Math.ListN.{length, get_or, length-set}
+use Rattle.std.proofs.Math.ListN.{length, get_or, length-set, take}
+use Rattle.std.proofs.Math.Nat.{sub-zero}
+use Rattle.std.proofs.lemmas.List.{get_or-take, length-take-le}
 use Rattle.std.proofs.lemmas.List.Edits.{sets}
 use Rattle.words.specs.Sizes.{base, FREE}
 use Rattle.words.specs.Lists.{fold}
@@ -36,39 +38,42 @@ fronts_reports cs buf i (c ∷ l) h =
     let e = sets_below (set buf i (report_of cs c)) (suc i) (reports cs l) i (omega arith) ∙ get_or-set_same buf i (report_of cs c) [] (omega arith) in
     rw e (ap (λ (x : List ℕ). c ∷ x) (fronts_reports cs (set buf i (report_of cs c)) (suc i) l (omega arith)))
 
+-- ---- of the first reports alone
+
+fronts_below : (rs : List (List ℕ)) (i k n : ℕ) → i + k ≤ n → fronts (take n rs) i k ≡ fronts rs i k
+unfolding fronts
+fronts_below rs i zero n h = refl
+fronts_below rs i (suc k) n h = rw (get_or-take n rs i [] (omega arith), fronts_below rs (suc i) k n (omega arith))
+
+pub fronts_take : (rs : List (List ℕ)) (n : ℕ) → n ≤ length rs → fronts (take n rs) 0 (length (take n rs)) ≡ fronts rs 0 n
+fronts_take rs n h = rw (length-take-le n rs h) (fronts_below rs 0 n n (omega arith))
+
 -- ---- the loop
 
-module _ (rs : List (List ℕ)) (count : ℕ) where
+module _ (rs : List (List ℕ)) where
+  -- from place i on
   abbrev rest : ℕ → List ℕ
-  rest i = fronts rs i (count - i)
+  rest i = fronts rs i (length rs - i)
 
-  rest_next : (i : ℕ) → i < count → rest i ≡ get_or (get_or rs i []) 0 0 ∷ rest (i + 1)
+  rest_next : (i : ℕ) → i < length rs → rest i ≡ get_or (get_or rs i []) 0 0 ∷ rest (i + 1)
   unfolding fronts
   rest_next i h =
-      let q : count - i ≡ suc (count - (i + 1)) = omega arith in
-      rw q (ap (λ (x : ℕ). get_or (get_or rs i []) 0 0 ∷ fronts rs x (count - (i + 1))) (sym (add-one i)))
+      let q : length rs - i ≡ suc (length rs - (i + 1)) = omega arith in
+      rw q (ap (λ (x : ℕ). get_or (get_or rs i []) 0 0 ∷ fronts rs x (length rs - (i + 1))) (sym (add-one i)))
 
-  module _ (meta₀ : List ℕ) (cells₀ : List (List ℕ)) where
+  module _ (all : List ℕ) (meta₀ : List ℕ) (cells₀ : List (List ℕ)) where
     pub record Giving (i : ℕ) (meta : List ℕ) (cells : List (List ℕ)) : Type 0 where
-      pub within : i ≤ count
-      pub metas : length meta ≡ length meta₀
-      pub size : length cells ≡ length cells₀
       pub ahead : AllCells cells (rest i)
-      pub same : (r : List ℕ) (s : List (List ℕ)) → fold give_back (rest i) (mem {z = base} meta r cells s) ≡ fold give_back (fronts rs 0 count) (mem meta₀ r cells₀ s)
-
-    pub giving_start : AllCells cells₀ (fronts rs 0 count) → Giving 0 meta₀ cells₀
-    giving_start a =
-        let q : count - 0 ≡ count = omega arith in
-        record { within = omega arith; metas = refl; size = refl; ahead = rw q a; same = λ r s. rw q refl }
+      pub same : (r : List ℕ) (s : List (List ℕ)) → fold give_back (rest i) (mem {z = base} meta r cells s) ≡ fold give_back all (mem meta₀ r cells₀ s)
 
     module _ (i : ℕ) (meta : List ℕ) (cells : List (List ℕ)) (g : Giving i meta cells) where
-      pub giving_end : count ≤ i → (r : List ℕ) (s : List (List ℕ)) → mem {z = base} meta r cells s ≡ fold give_back (fronts rs 0 count) (mem meta₀ r cells₀ s)
+      pub giving_end : length rs ≤ i → (r : List ℕ) (s : List (List ℕ)) → mem {z = base} meta r cells s ≡ fold give_back all (mem meta₀ r cells₀ s)
       unfolding fronts fold
       giving_end h r s =
-          let q : count - i ≡ 0 = omega arith in
+          let q : length rs - i ≡ 0 = omega arith in
           (rw q at (g.same r s))
 
-      module _ (h : i < count) where
+      module _ (h : i < length rs) where
         pub giving_cell : HasCell cells (get_or (get_or rs i []) 0 0)
         giving_cell = (rw (rest_next i h) at g.ahead).0
 
@@ -76,12 +81,13 @@ module _ (rs : List (List ℕ)) (count : ℕ) where
             → cells' ≡ put_cell cells (get_or (get_or rs i []) 0 0) empty_version (get_or meta FREE 0) → Giving (i + 1) meta' cells'
         unfolding fold give_back
         giving_next meta' cells' em ec =
-            let c = get_or (get_or rs i []) 0 0 in
-            let len = ap length ec ∙ length_put cells c empty_version (get_or meta FREE 0) in
+            let len = ap length ec ∙ length_put cells (get_or (get_or rs i []) 0 0) empty_version (get_or meta FREE 0) in
             record {
-              within = omega arith;
-              metas = ap length em ∙ length-set meta FREE c ∙ g.metas;
-              size = len ∙ g.size;
               ahead = all_cells cells cells' len (rest (i + 1)) (rw (rest_next i h) at g.ahead).1;
               same = λ r s. rw (em, ec) (rw (rest_next i h) at (g.same r s));
             }
+
+  pub giving_start : (meta : List ℕ) (cells : List (List ℕ)) → AllCells cells (fronts rs 0 (length rs)) → Giving (fronts rs 0 (length rs)) meta cells 0 meta cells
+  giving_start meta cells a =
+      let e : rest 0 ≡ fronts rs 0 (length rs) = rw (sub-zero (length rs)) refl in
+      record { ahead = rw e a; same = λ r s. rw e refl }

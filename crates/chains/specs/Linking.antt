@@ -1,7 +1,7 @@
 -- Where the loop that links a row anew stands: what stays of the rest of the chain, linked behind the version that stayed last, gives
 -- what the whole gives. The cells ahead are as they were, since no cell is passed twice: so the walk goes on as if nothing had changed.
 use Rattle.std.specs.Prelude.{ℕ, ◌<◌, true, false, cond, List, [], ◌∷◌, ◌≢◌, ◌≡◌, refl, length}
-use Rattle.std.proofs.Common.{arith, ap, ◌∙◌}
+use Rattle.std.proofs.Common.{arith, ◌∙◌}
 use Rattle.kinds.specs.declared.Cell.{Cell}
 use Rattle.kinds.specs.declared.Version.{Version}
 use Rattle.words.specs.Lists.{keep}
@@ -105,6 +105,3 @@ module _ (cs : List (List ℕ)) (hz : ℕ) where
     pub linking_less : (last c : ℕ) (new : List (List ℕ)) → Linking head first last c new → c ≢ 0
         → (v : Version) → v ≡ version_at new c → length (line cs v.next.0) < length (line cs c)
     linking_less last c new k nz v ev = line_less cs c k.ended nz v (ev ∙ linking_here last c new k nz)
-
-    pub linking_size : (last c : ℕ) (new : List (List ℕ)) → Linking head first last c new → (v : Version) (after : List (List ℕ)) → after ≡ put_version new last v → length after ≡ length cs
-    linking_size last c new k v after e = ap length e ∙ length_put new last v (link_at new last) ∙ k.size

@@ -1,6 +1,6 @@
 -- Where the loop of reports stands: what is left of the chain, reported from place i on, gives what the whole chain gives from 0 on.
 use Rattle.std.specs.Prelude.{ℕ, ◌+◌, ◌≤◌, ◌<◌, true, false, cond, List, [], ◌∷◌, ◌≢◌, ◌≡◌, refl, length, set}
-use Rattle.std.proofs.Common.{add-one, arith, ◌∙◌}
+use Rattle.std.proofs.Common.{add-one, arith}
 use mir.Val.{bool_byte}
 use Rattle.std.proofs.Math.ListN.{length-set}
 use Rattle.std.proofs.lemmas.List.Edits.{sets}
@@ -31,13 +31,12 @@ module _ (cs : List (List ℕ)) (hz : ℕ) where
 
   pub record Reporting (first : ℕ) (before : List (List ℕ)) (c i : ℕ) (buf : List (List ℕ)) : Type 0 where
     pub ended : Ends cs c
-    pub size : length buf ≡ length before
     pub room : i + length (gone c) ≤ length buf
     pub same : sets buf i (reports cs (gone c)) ≡ sets before 0 (reports cs (gone first))
 
   module _ (first : ℕ) (before : List (List ℕ)) where
     pub reporting_start : Ends cs first → length (gone first) ≤ length before → Reporting first before first 0 before
-    reporting_start e h = record { ended = e; size = refl; room = omega arith; same = refl }
+    reporting_start e h = record { ended = e; room = omega arith; same = refl }
 
     pub reporting_end : (c i : ℕ) (buf : List (List ℕ)) → Reporting first before c i buf → c ≡ 0 → buf ≡ sets before 0 (reports cs (gone first))
     unfolding reports
@@ -53,7 +52,6 @@ module _ (cs : List (List ℕ)) (hz : ℕ) where
           let h = rw (gone_dead c r.ended nz d) at r.room in
           record {
             ended = ends_next cs c r.ended nz;
-            size = length-set buf i (report_of cs c) ∙ r.size;
             room = rw (length-set buf i (report_of cs c)) (omega arith);
             same = rw (add-one i) (rw (gone_dead c r.ended nz d) at r.same);
           }
@@ -63,7 +61,6 @@ module _ (cs : List (List ℕ)) (hz : ℕ) where
           let z : i + 0 ≡ i = omega arith in
           record {
             ended = ends_next cs c r.ended nz;
-            size = r.size;
             room = rw (← gone_alive c r.ended nz d) (omega (arith, r.room));
             same = rw (z, ← gone_alive c r.ended nz d) r.same;
           }

@@ -2,7 +2,7 @@
 // and the reported cells are given back. The judge looks at any memory; the others ask for what its verdict has shown.
 #![tactic(auto)]
 
-ghost use Rattle.std.specs.Prelude.{Bool, true, not, cond, List, [], ◌∷◌, ◌≡◌, ℕ, ◌+◌, ◌≤◌, ◌<◌, length, set};
+ghost use Rattle.std.specs.Prelude.{true, cond, List, [], ◌∷◌, ◌≡◌, ℕ, ◌+◌, ◌≤◌, ◌<◌, length, set};
 ghost use mir.Val.{bool_byte};
 ghost use Rattle.std.proofs.lemmas.List.Edits.{sets};
 ghost use Rattle.words.specs.Sizes.{base, meta_words};
@@ -20,44 +20,38 @@ ghost use Rattle.chains.specs.Lines.{Ends, line};
 ghost use Rattle.chains.specs.Tallies.{dead, alive, tally};
 ghost use Rattle.chains.specs.Fronts.{fronts};
 
-use kinds::{Cell, Version};
+use kinds::{Cell, Refusal, Version};
 use words::CELL_WORDS;
 
-// What the walk of a judge comes to: a chain that is too long or broken, or how many of its versions are reclaimable.
-#[derive(Clone, Copy)]
-pub enum Tally {
-    Harmed,
-    Sound(u64),
-}
-
-// Walks from a cell on, `most` versions at the most, and counts the reclaimable ones. A pointer is followed only after the limit was
-// tested, so a cycle ends.
+// Walks from a cell on, `most` versions at the most, and counts the reclaimable ones. A chain that is longer, as a cycle is, or broken
+// is damage.
 pub fn count_dead(
     cells: &[[u64; CELL_WORDS]],
     n: u64,
     horizon: u64,
     first: Cell,
     most: u64,
-) -> Tally
+) -> Result<u64, Refusal>
     ensures { result ≡ tally (dead cells.now horizon) 0 (chain n (version_at cells.now) most first.0) }
 {
-    let mut c = first.0;
-    let mut left = most;
+    let mut c = first;
     let mut count: u64 = 0;
-    while c != 0 {
-        if left == 0 {
-            return Tally::Harmed;
+    for _ in 0..most {
+        if c.0 == 0 {
+            return Ok(count);
         }
-        if n < c {
-            return Tally::Harmed;
+        if n < c.0 {
+            return Err(Refusal::Damaged);
         }
-        let v = arena::version_at(cells, Cell(c));
+        let v = arena::version_at(cells, c);
         count += v.is_reclaimable(horizon) as u64;
-        let next = v.next;
-        c = next.0;
-        left -= 1;
+        c = v.next;
     }
-    Tally::Sound(count)
+    if c.0 == 0 {
+        Ok(count)
+    } else {
+        Err(Refusal::Damaged)
+    }
 }
 
 // A version's report at place i, where it is reclaimable; the place of the next.
@@ -80,13 +74,13 @@ pub fn report_dead(cells: &[[u64; CELL_WORDS]], horizon: u64, first: Cell, repor
     ensures { reports.new ≡ sets reports.old 0
         (rule.reports cells.now (keep (dead cells.now horizon) (line cells.now first.0))) }
 {
-    let mut c = first.0;
+    let mut c = first;
     let mut i = 0;
-    while c != 0 {
-        let v = arena::version_at(cells, Cell(c));
-        i = report(reports, i, v, Cell(c), horizon);
-        let next = v.next;
-        c = next.0;
+    // Not a `for`: no number says where the chain ends, its pointers do.
+    while c.0 != 0 {
+        let v = arena::version_at(cells, c);
+        i = report(reports, i, v, c, horizon);
+        c = v.next;
     }
 }
 
@@ -123,6 +117,7 @@ pub fn relink(cells: &mut [[u64; CELL_WORDS]], horizon: u64, head: Cell, first: 
 {
     let mut last = head;
     let mut c = first;
+    // As in `report_dead`: the chain ends where its pointers say.
     while c.0 != 0 {
         let v = arena::version_at(cells, c);
         last = link_kept(cells, v, horizon, last, c);
@@ -131,22 +126,14 @@ pub fn relink(cells: &mut [[u64; CELL_WORDS]], horizon: u64, head: Cell, first: 
     link(cells, last, Cell(0));
 }
 
-// The cells of the first reports, given back in the order of the reports.
-pub fn give_all(
-    meta: &mut [u64],
-    cells: &mut [[u64; CELL_WORDS]],
-    reports: &[[u64; 3]],
-    count: usize,
-)
+// The cells of the reports, given back in the order of the reports.
+pub fn give_all(meta: &mut [u64], cells: &mut [[u64; CELL_WORDS]], reports: &[[u64; 3]])
     requires meta_words_in_bounds { meta_words ≤ length meta.old }
-    requires count_in_bounds { count ≤ length reports.now }
-    requires all_cells { AllCells cells.old (fronts reports.now 0 count) }
+    requires all_cells { AllCells cells.old (fronts reports.now 0 (length reports.now)) }
     ensures { (r : List ℕ) (s : List (List ℕ)) → mem {z = base} meta.new r cells.new s
-        ≡ fold give_back (fronts reports.now 0 count) (mem meta.old r cells.old s) }
+        ≡ fold give_back (fronts reports.now 0 (length reports.now)) (mem meta.old r cells.old s) }
 {
-    let mut i = 0;
-    while i < count {
-        arena::give_back(meta, cells, Cell(reports[i][0]));
-        i += 1;
+    for report in reports {
+        arena::give_back(meta, cells, Cell(report[0]));
     }
 }

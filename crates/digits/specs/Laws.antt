@@ -1,6 +1,5 @@
 -- Laws of decimal numbers: reading goes digit by digit, spelling goes by the last digit, and what is spelled is read back.
-use Rattle.std.specs.Prelude.{ℕ, zero, suc, ◌+◌, ◌*◌, ◌-◌, ◌/◌, ◌%◌, ◌^◌, ◌<◌, ◌≤◌, Bool, true, false, not, ◌&&◌, List, [], ◌∷◌, ◌++◌, ◌≡◌, refl, ◌≢◌, eqb, ltb, leb, length, get_or, drop, set}
-use Rattle.std.proofs.Math.Option.{none, some}
+use Rattle.std.specs.Prelude.{ℕ, zero, suc, ◌+◌, ◌*◌, ◌-◌, ◌/◌, ◌%◌, ◌^◌, ◌<◌, ◌≤◌, Bool, true, false, not, ◌&&◌, None, Some, List, [], ◌∷◌, ◌++◌, ◌≡◌, refl, ◌≢◌, eqb, ltb, leb, length, get_or, drop, set}
 use Rattle.std.proofs.Common.{sym, ap, ◌∙◌, le_refl, add-zero, mod-eq_of_lt, pow-suc, add-one, arith, length-append, drop_of_length-le}
 use Rattle.std.proofs.Math.Nat.{pow-le-pow_right}
 use Rattle.std.proofs.lemmas.List.Edits.{sets}
@@ -39,29 +38,29 @@ off true = refl
 off false = refl
 
 module _ (s : List ℕ) (v i : ℕ) where
-  pub read_done : length s ≤ i → v < 2 ^ 64 → read_on v (drop i s) ≡ some v
+  pub read_done : length s ≤ i → v < 2 ^ 64 → read_on v (drop i s) ≡ Some v
   unfolding read_on all_digits value_on
   read_done h f = rw (drop_of_length-le s h, lt-ltb v (2 ^ 64) f)
 
-  pub read_low : i < length s → get_or s i 0 < 48 → read_on v (drop i s) ≡ none
+  pub read_low : i < length s → get_or s i 0 < 48 → read_on v (drop i s) ≡ None
   unfolding read_on all_digits
   read_low h d = rw (drop-cons s i 0 h, lt-leb 48 (get_or s i 0) d)
 
-  pub read_high : i < length s → 57 < get_or s i 0 → read_on v (drop i s) ≡ none
+  pub read_high : i < length s → 57 < get_or s i 0 → read_on v (drop i s) ≡ None
   unfolding read_on all_digits
   read_high h d = rw (drop-cons s i 0 h, le-leb 48 (get_or s i 0) (omega arith), lt-leb (get_or s i 0) 57 d)
 
-  pub read_big : i < length s → 48 ≤ get_or s i 0 → get_or s i 0 ≤ 57 → 2 ^ 64 ≤ v * 10 + (get_or s i 0 - 48) → read_on v (drop i s) ≡ none
+  pub read_big : i < length s → 48 ≤ get_or s i 0 → get_or s i 0 ≤ 57 → 2 ^ 64 ≤ v * 10 + (get_or s i 0 - 48) → read_on v (drop i s) ≡ None
   unfolding read_on all_digits value_on
   read_big h a b g =
       rw (drop-cons s i 0 h, le-leb 48 (get_or s i 0) a, le-leb (get_or s i 0) 57 b)
       (rw (le-ltb (value_on (v * 10 + (get_or s i 0 - 48)) (drop (suc i) s)) (2 ^ 64) (omega (arith, grows (v * 10 + (get_or s i 0 - 48)) (drop (suc i) s))), off))
 
-  pub read_step : i < length s → 48 ≤ get_or s i 0 → get_or s i 0 ≤ 57 → read_on v (drop i s) ≡ read_on (v * 10 + (get_or s i 0 - 48)) (drop (i + 1) s)
+  pub read_step : i < length s → 48 ≤ get_or s i 0 → get_or s i 0 ≤ 57 → (w : ℕ) → w ≡ v * 10 + (get_or s i 0 - 48) → read_on v (drop i s) ≡ read_on w (drop (i + 1) s)
   unfolding read_on all_digits value_on
-  read_step h a b = rw (add-one i, drop-cons s i 0 h, le-leb 48 (get_or s i 0) a, le-leb (get_or s i 0) 57 b)
+  read_step h a b w e = rw (e, add-one i, drop-cons s i 0 h, le-leb 48 (get_or s i 0) a, le-leb (get_or s i 0) 57 b)
 
-pub number_bad : (s : List ℕ) → leads s ≡ false → number_of s ≡ none
+pub number_bad : (s : List ℕ) → leads s ≡ false → number_of s ≡ None
 unfolding number_of
 number_bad s e = rw e
 
@@ -157,22 +156,30 @@ sets_snoc l a (x ∷ s) d =
     sets_snoc (set l a x) (suc a) s d
     ∙ ap (λ (m : List ℕ). sets m (suc a) s) (set_comm l a (suc a + length s) x d ne ∙ ap (λ (k : ℕ). set (set l k d) a x) e)
 
-pub put_step : (l : List ℕ) (a i n : ℕ) → 0 < i
-    → sets (set l (a + (i - 1)) (48 + n % 10)) a (last_digits (i - 1) (n / 10)) ≡ sets l a (last_digits i n)
+put_on : (l : List ℕ) (a k n : ℕ) → sets (set l (a + k) (48 + n % 10)) a (last_digits k (n / 10)) ≡ sets l a (last_digits (suc k) n)
 unfolding last_digits
-put_step l a zero n h = absurd (omega arith)
-put_step l a (suc i) n h =
-    let e : suc i - 1 ≡ i = omega arith in
-    rw e (sym (sets_snoc l a (last_digits i (n / 10)) (48 + n % 10)
-    ∙ ap (λ (k : ℕ). sets (set l (a + k) (48 + n % 10)) a (last_digits i (n / 10))) (length_last i (n / 10))))
+put_on l a k n =
+    sym (sets_snoc l a (last_digits k (n / 10)) (48 + n % 10)
+    ∙ ap (λ (j : ℕ). sets (set l (a + j) (48 + n % 10)) a (last_digits k (n / 10))) (length_last k (n / 10)))
 
-pub put_start : (l : List ℕ) (a n k : ℕ) → k ≡ length (digits n) → sets l a (last_digits k n) ≡ sets l a (digits n)
-put_start l a n k e = rw (e, spell_last most n)
+-- the digits from a up to i are still to come
+pub put_step : (l : List ℕ) (a i n : ℕ) → a < i
+    → sets (set l (i - 1) (48 + n % 10)) a (last_digits (i - 1 - a) (n / 10)) ≡ sets l a (last_digits (i - a) n)
+put_step l a i n h =
+    let e : i - 1 ≡ a + (i - 1 - a) = omega arith in
+    let f : suc (i - 1 - a) ≡ i - a = omega arith in
+    ap (λ (m : ℕ). sets (set l m (48 + n % 10)) a (last_digits (i - 1 - a) (n / 10))) e
+    ∙ put_on l a (i - 1 - a) n
+    ∙ ap (λ (m : ℕ). sets l a (last_digits m n)) f
 
-pub put_done : (l : List ℕ) (a i n : ℕ) → i ≤ 0 → sets l a (last_digits i n) ≡ l
+pub put_start : (l : List ℕ) (a n k : ℕ) → k ≡ length (digits n) → sets l a (last_digits (a + k - a) n) ≡ sets l a (digits n)
+put_start l a n k e =
+    let f : a + k - a ≡ length (digits n) = omega arith in
+    rw (f, spell_last most n)
+
+pub put_done : (l : List ℕ) (a i n : ℕ) → i ≤ a → sets l a (last_digits (i - a) n) ≡ l
 unfolding last_digits
-put_done l a zero n h = refl
-put_done l a (suc i) n h = absurd (omega arith)
+put_done l a i n h = let e : i - a ≡ 0 = omega arith in rw e
 
 -- ---- what is spelled is read back
 
@@ -245,7 +252,7 @@ digits_lead zero h = refl
 digits_lead (suc n) h = heads_leads (digits (suc n)) (spell_heads 19 (suc n) (omega arith) (omega arith))
 
 -- a number printed is read back as itself
-pub round_trip : (n : ℕ) → n < 2 ^ 64 → number_of (digits n) ≡ some n
+pub round_trip : (n : ℕ) → n < 2 ^ 64 → number_of (digits n) ≡ Some n
 unfolding number_of read_on
 round_trip n h =
     rw (digits_lead n h, spell_digits most n, spell_value 19 n (omega arith), lt-ltb n (2 ^ 64) h)
@@ -279,7 +286,7 @@ front_digit b (c ∷ l) e h d =
     by (suc n) z f q = omega arith
 
 -- a text longer than any number's digits says none
-pub too_long_for_a_number : (s : List ℕ) → most < length s → number_of s ≡ none
+pub too_long_for_a_number : (s : List ℕ) → most < length s → number_of s ≡ None
 unfolding number_of read_on value_on
 too_long_for_a_number [] h = absurd (omega arith)
 too_long_for_a_number (b ∷ l) h = by (leads (b ∷ l)) (all_digits (b ∷ l)) refl refl
@@ -293,7 +300,7 @@ too_long_for_a_number (b ∷ l) h = by (leads (b ∷ l)) (all_digits (b ∷ l)) 
         let p : 10 ^ most ≤ 10 ^ length l = pow-le-pow_right (omega arith) {i = most} {j = length l} (omega arith) in
         omega arith
 
-    by : (e d : Bool) → leads (b ∷ l) ≡ e → all_digits (b ∷ l) ≡ d → number_of (b ∷ l) ≡ none
+    by : (e d : Bool) → leads (b ∷ l) ≡ e → all_digits (b ∷ l) ≡ d → number_of (b ∷ l) ≡ None
     by false d p q = rw p
     by true false p q = rw (p, q)
     by true true p q = rw (p, q, le-ltb (value_on 0 (b ∷ l)) (2 ^ 64) (big p q))

@@ -1,8 +1,6 @@
 -- Decimal numbers as bytes: what a string of bytes says, and how a number is spelled.
-use Rattle.std.specs.Prelude.{ℕ, zero, suc, ◌+◌, ◌*◌, ◌-◌, ◌/◌, ◌%◌, ◌^◌, Bool, true, false, not, ◌&&◌, cond, List, [], ◌∷◌, ◌++◌, ◌≡◌, eqb, ltb, leb, length}
-use Rattle.std.proofs.Math.Option.{Option, none, some}
+use Rattle.std.specs.Prelude.{ℕ, zero, suc, ◌+◌, ◌*◌, ◌-◌, ◌/◌, ◌%◌, ◌^◌, Bool, true, false, not, ◌&&◌, cond, Option, None, Some, List, [], ◌∷◌, ◌++◌, ◌≡◌, eqb, ltb, leb, length}
 use Rattle.std.proofs.lemmas.List.Edits.{sets}
-use Rattle.digits.specs.declared.Number.{Number}
 
 -- a byte from `0` to `9`
 abbrev pub is_digit : ℕ → Bool
@@ -25,16 +23,11 @@ value_on v (b ∷ l) = value_on (v * 10 + (b - 48)) l
 
 -- the number that digits say after v, where it is at most 2^64 - 1
 unfoldable pub read_on : ℕ → List ℕ → Option ℕ
-read_on v l = cond (all_digits l && ltb (value_on v l) (2 ^ 64)) (some (value_on v l)) none
+read_on v l = cond (all_digits l && ltb (value_on v l) (2 ^ 64)) (Some (value_on v l)) None
 
 -- the number that the bytes say: digits alone, no leading zero, at most 2^64 - 1
 unfoldable pub number_of : List ℕ → Option ℕ
-number_of s = cond (leads s) (read_on 0 s) none
-
--- as the code answers it
-abbrev pub told : Option ℕ → Number
-told none = Number.Nothing
-told (some n) = Number.Is n
+number_of s = cond (leads s) (read_on 0 s) None
 
 -- the digits of n, the most significant first, k at most
 unfoldable pub spell : ℕ → ℕ → List ℕ

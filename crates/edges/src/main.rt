@@ -6,44 +6,33 @@ mod lines;
 
 ghost use Rattle.std.specs.Prelude.{◌≤◌, length, IfOk};
 
-use saying::{say, say_number};
 use std::io;
-use std::io::Read;
+use std::io::{Read, Write};
 
 const LONGEST: usize = 400000;
 
-// Reads until `into` is full or the input ends; how many bytes it put at the front.
+// Reads until `into` is full or the input ends; how many bytes it put at the front. A loop of its own: std's `read_exact` fails where the
+// input ends sooner, and `read_to_end` needs a heap.
 fn read_full<R: Read>(from: &mut R, into: &mut [u8]) -> io::Result<usize>
     ensures { IfOk result (λ n. n ≤ length into.new) }
 {
     let mut done = 0;
     while done < into.len() {
-        let n = from.read(&mut into[done..])?;
-        if n == 0 {
-            break;
+        match from.read(&mut into[done..])? {
+            0 => break,
+            n => done += n,
         }
-        done += n;
     }
     Ok(done)
-}
-
-// Is there more to read?
-fn is_more<R: Read>(from: &mut R) -> io::Result<bool> {
-    let mut next = [0u8; 1];
-    Ok(read_full(from, &mut next)? > 0)
 }
 
 fn main(rt: HostRuntime) -> io::Result<()> {
     let mut input = rt.stdin();
     let mut output = rt.stdout();
-    let mut script = [0u8; LONGEST];
+    let mut script = [0u8; LONGEST + 1];
     let n = read_full(&mut input, &mut script)?;
-    if n == LONGEST {
-        if is_more(&mut input)? {
-            say(&mut output, b"? the script is longer than")?;
-            say_number(&mut output, LONGEST as u64)?;
-            return say(&mut output, b" bytes\n");
-        }
+    if n > LONGEST {
+        return writeln!(output, "? the script is longer than {LONGEST} bytes");
     }
     lines::run(&mut output, &script[..n])
 }

@@ -6,12 +6,13 @@ ghost use Rattle.words.specs.Sizes.{base};
 ghost use Rattle.words.specs.Slots.{emptied};
 ghost use Rattle.rules.specs.Memory.{mem};
 ghost use Rattle.rules.specs.Outcome.{out};
+ghost use Rattle.kinds.specs.Results.{done};
 ghost use Rattle.rules.specs.Lent.{lent};
 ghost use Rattle.gate.specs.FineLaws.{SlotFine};
 ghost use Rattle.ends.specs.CommitRest.{commit_rest};
 ghost use Rattle.ends.specs.AbortRest.{abort_rest};
 
-use kinds::{Answer, Verdict};
+use kinds::Refusal;
 use words::{CELL_WORDS, TxId, WIDTH};
 
 // "The slot is emptied: every field 0."
@@ -30,19 +31,15 @@ pub fn commit(
     slots: &mut [[u64; WIDTH]],
     slot: u64,
     id: TxId,
-) -> Answer
+) -> Result<(), Refusal>
     requires { SlotFine (mem {z = base} meta.now rows.old cells.old slots.old) slot id.0 }
-    ensures { out result [] (lent meta.now rows.new cells.new slots.new) ≡ commit_rest (lent meta.now rows.old cells.old slots.old) slot id.0 }
+    ensures { out (done result) [] (lent meta.now rows.new cells.new slots.new) ≡ commit_rest (lent meta.now rows.old cells.old slots.old) slot id.0 }
 {
     let s = slot as usize;
-    match validate::check_commit(meta, rows, cells, &slots[s]) {
-        Verdict::Refused { number, value } => Answer::Refused { number, value },
-        Verdict::Fine => {
-            publish::publish_all(rows, cells, &slots[s], id);
-            empty(slots, s);
-            Answer::Done
-        }
-    }
+    validate::check_commit(meta, rows, cells, &slots[s])?;
+    publish::publish_all(rows, cells, &slots[s], id);
+    empty(slots, s);
+    Ok(())
 }
 
 // Bases that this id locked are unlocked, the prepared cells go back in write order, the slot is emptied.
@@ -53,18 +50,14 @@ pub fn abort(
     slots: &mut [[u64; WIDTH]],
     slot: u64,
     id: TxId,
-) -> Answer
+) -> Result<(), Refusal>
     requires { SlotFine (mem {z = base} meta.old rows.now cells.old slots.old) slot id.0 }
-    ensures { out result [] (lent meta.new rows.now cells.new slots.new) ≡ abort_rest (lent meta.old rows.now cells.old slots.old) slot id.0 }
+    ensures { out (done result) [] (lent meta.new rows.now cells.new slots.new) ≡ abort_rest (lent meta.old rows.now cells.old slots.old) slot id.0 }
 {
     let s = slot as usize;
-    match undo::check_abort(meta, &slots[s]) {
-        Verdict::Refused { number, value } => Answer::Refused { number, value },
-        Verdict::Fine => {
-            undo::unlock_all(cells, &slots[s], id);
-            undo::give_all(meta, cells, &slots[s]);
-            empty(slots, s);
-            Answer::Done
-        }
-    }
+    undo::check_abort(meta, &slots[s])?;
+    undo::unlock_all(cells, &slots[s], id);
+    undo::give_all(meta, cells, &slots[s]);
+    empty(slots, s);
+    Ok(())
 }

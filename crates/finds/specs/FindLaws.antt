@@ -1,6 +1,6 @@
 -- The sweep over words is the rules' find: the copy of the slot holds the records found so far after its own, and the front of the list
 -- the rows listed.
-use Rattle.std.specs.Prelude.{ℕ, suc, ◌+◌, ◌≤◌, ◌≡◌, take, leb}
+use Rattle.std.specs.Prelude.{ℕ, suc, ◌+◌, ◌≤◌, ◌≡◌, take, leb, Result, Ok, Err}
 use mathlib.Core.List.{List, [], ◌∷◌, ◌++◌}
 use Rattle.std.proofs.Math.Option.{Option, none, some}
 use Rattle.std.proofs.Math.Path.{refl, sym, ap, subst}
@@ -21,10 +21,11 @@ use Rattle.rules.specs.Lookup.{Found, stopped, got, is_key, list_row, find_row, 
 use Rattle.rules.proofs.Theory.Cases.{by_bool}
 use Rattle.rules.specs.Theory.SlotLaws.{SlotOk, with_recs, put_recs}
 use Rattle.rules.proofs.Theory.SlotLaws.{slot_recs, recs_length}
+use Rattle.arena.specs.declared.Broken.{Broken}
 use Rattle.reads.specs.declared.Found as F
 use Rattle.reads.specs.Found.{found_of}
 use Rattle.reads.specs.Sights.{record_of, sight_found, read_row_is}
-use Rattle.finds.specs.declared.Listing.{Listing}
+use Rattle.finds.specs.Listing.{Listing}
 use Rattle.finds.specs.Sweep.{note, Sweep, sweep, list_at, seen_row, step_row, go_on, after_row, sweep_rows}
 
 fold_append : {A S : Type 0} (f : A → S → S) (l k : List A) (s : S) → fold f (l ++ k) s ≡ fold f k (fold f l s)
@@ -43,17 +44,17 @@ read_by_parts n f head t recs rs row = by (own t.writes row)
     by (some w) = refl
 
 -- where there is room for the records, there is room for what a read adds
-new_fits : (f : ℕ → Version) (recs : List Rec) (row c : ℕ) (new : List Rec) (k : F.Found) → length recs ≤ base.reads → sight_found f recs row k ≡ sees c new → length recs + length new ≤ base.reads
+new_fits : (f : ℕ → Version) (recs : List Rec) (row c : ℕ) (new : List Rec) (k : Result F.Found Broken) → length recs ≤ base.reads → sight_found f recs row k ≡ sees c new → length recs + length new ≤ base.reads
 unfolding record_of
-new_fits f recs row c new (F.Found.Own d) h e =
+new_fits f recs row c new (Ok (F.Found.Own d)) h e =
     let q : [] ≡ new = cc in
     rw (← q) (omega arith)
-new_fits f recs row c new F.Found.Nothing h e =
+new_fits f recs row c new (Ok F.Found.Nothing) h e =
     let q : [] ≡ new = cc in
     rw (← q) (omega arith)
-new_fits f recs row c new F.Found.TooLong h e = absurd (let z : ◌≡◌ {A = ℕ} 0 1 = cc in omega arith)
-new_fits f recs row c new F.Found.Harmed h e = absurd (let z : ◌≡◌ {A = ℕ} 0 1 = cc in omega arith)
-new_fits f recs row c new (F.Found.Version d) h e = by_bool (recorded d.0 recs)
+new_fits f recs row c new (Err Broken.TooLong) h e = absurd (let z : ◌≡◌ {A = ℕ} 0 1 = cc in omega arith)
+new_fits f recs row c new (Err Broken.Harmed) h e = absurd (let z : ◌≡◌ {A = ℕ} 0 1 = cc in omega arith)
+new_fits f recs row c new (Ok (F.Found.Version d)) h e = by_bool (recorded d.0 recs)
     (λ a.
     let g = rw a at e in
     let q : [] ≡ new = cc in

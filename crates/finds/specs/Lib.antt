@@ -1,3 +1,4 @@
 pub mod Marks
 pub mod Sweep
 pub mod FindLaws
+pub mod Listing

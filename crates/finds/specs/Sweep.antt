@@ -1,8 +1,8 @@
 -- The rows read one by one, over the words that the code works on: a copy of the slot, and the rows listed so far.
-use Rattle.std.specs.Prelude.{ℕ, suc, ◌+◌, ◌-◌, ◌<◌, ◌≤◌, cond, get_or, set, leb}
+use Rattle.std.specs.Prelude.{ℕ, suc, ◌+◌, ◌≤◌, cond, get_or, set, leb}
 use mathlib.Core.List.{List, [], ◌∷◌}
 use Rattle.std.proofs.Math.Path.{◌≡◌, refl, ap}
-use Rattle.std.proofs.Common.{sym, ◌∙◌, add-one}
+use Rattle.std.proofs.Common.{sym, ◌∙◌, add-one, eq-eqb, ne_eqb}
 use native.Mathlib.Omega.{arith}
 use Rattle.kinds.specs.declared.Version.{Version}
 use Rattle.words.specs.Sizes.{base}
@@ -12,7 +12,15 @@ use Rattle.words.specs.Slots.{Rec, slot_of, add_rec, add_recs}
 use Rattle.rules.specs.Read.{answer_at, Sight, blocked, sees, read_row}
 use Rattle.rules.specs.Lookup.{is_key}
 use Rattle.rules.proofs.Theory.Cases.{by_bool}
-use Rattle.finds.specs.declared.Listing.{Listing}
+use Rattle.std.specs.Prelude.{Result, Ok, Err}
+use Rattle.kinds.specs.declared.refusals.Refusal.{Refusal}
+use Rattle.kinds.specs.Results.{number, about}
+use Rattle.finds.specs.Listing.{Listing}
+
+-- what the code answers, with count rows listed
+abbrev pub listing : ℕ → Result (Unit {0}) Refusal → Listing
+listing count (Ok _) = Listing.Rows count
+listing count (Err e) = Listing.Stopped (number e) (about e)
 
 -- what the rows came to, and the list of them
 pub record Note : Type 0 where
@@ -73,14 +81,13 @@ module _ (f : ℕ → Version) (n key room head row : ℕ) (t : List ℕ) (count
   unfolding step_row seen_row
   step_blocked k x e = ap (seen_row f n key room row t count b) e
 
-  pub step_known : (c : ℕ) (q : Note) → q ≡ list_at f key room row count b c → Reads (sees c []) → sweep t q ≡ step_row f n key room head row t count b
+  pub step_known : (c : ℕ) → Reads (sees c []) → sweep t (list_at f key room row count b c) ≡ step_row f n key room head row t count b
   unfolding step_row seen_row fold
-  step_known c q w e = ap (sweep t) w ∙ ap (seen_row f n key room row t count b) e
+  step_known c e = ap (seen_row f n key room row t count b) e
 
-  pub step_fresh : (c : ℕ) (r : Rec) (u : List ℕ) (q : Note) → u ≡ add_rec base r t → q ≡ list_at f key room row count b c → Reads (sees c (r ∷ []))
-      → sweep u q ≡ step_row f n key room head row t count b
+  pub step_fresh : (c : ℕ) (r : Rec) → Reads (sees c (r ∷ [])) → sweep (add_rec base r t) (list_at f key room row count b c) ≡ step_row f n key room head row t count b
   unfolding step_row seen_row fold
-  step_fresh c r u q v w e = rw (v, w) (ap (seen_row f n key room row t count b) e)
+  step_fresh c r e = ap (seen_row f n key room row t count b) e
 
   -- one row is listed at the most
   listed_next : (c k : ℕ) → (list_at f key room row count b c).listing ≡ Listing.Rows k → k ≤ count + 1
@@ -97,9 +104,9 @@ module _ (f : ℕ → Version) (n key room head row : ℕ) (t : List ℕ) (count
   seen_next k (blocked j x) e = absurd (let z : ◌≡◌ {A = ℕ} 0 1 = cc in omega arith)
   seen_next k (sees c new) e = listed_next c k e
 
-  pub step_next : (k : ℕ) → (step_row f n key room head row t count b).found.listing ≡ Listing.Rows k → k ≤ count + 1
+  pub step_next : (u : List ℕ) (k : ℕ) (d : List ℕ) → sweep u (note (Listing.Rows k) d) ≡ step_row f n key room head row t count b → k ≤ count + 1
   unfolding step_row
-  step_next k e = seen_next k _ e
+  step_next u k d e = seen_next k _ (sym (ap (λ (s : Sweep). s.found.listing) e))
 
 -- ---- row by row
 
@@ -107,11 +114,6 @@ module _ (f : ℕ → Version) (n key room : ℕ) (heads marks : List ℕ) where
   -- the rows from a on, j of them
   abbrev pub remaining : ℕ → ℕ → Sweep → Sweep
   remaining a j s = sweep_rows f n key room heads (marked_rows marks a j) s
-
-  pub scan_start : (j : ℕ) (s : Sweep) → remaining 0 (j - 0) s ≡ remaining 0 j s
-  scan_start j s =
-      let e : j - 0 ≡ j = omega arith in
-      rw e
 
   pub scan_end : (a j : ℕ) (s : Sweep) → j ≤ 0 → remaining a j s ≡ s
   unfolding keep from fold
@@ -124,25 +126,16 @@ module _ (f : ℕ → Version) (n key room : ℕ) (heads marks : List ℕ) where
   stays [] t k x b = refl
   stays (r ∷ l) t k x b = stays l t k x b
 
-  -- what the code makes of row a
-  abbrev pub after : ℕ → List ℕ → ℕ → List ℕ → Sweep
-  after a t count b = cond (nonzero (get_or marks a 0)) (step_row f n key room (get_or heads a 0) a t count b) (sweep t (note (Listing.Rows count) b))
+  -- row a, when `count` rows are listed: i rows come after it
+  module _ (a j i : ℕ) (more : j ≡ suc i) (t : List ℕ) (count : ℕ) (b : List ℕ) where
+    pub scan_skips : get_or marks a 0 ≡ 0 → remaining (a + 1) i (sweep t (note (Listing.Rows count) b)) ≡ remaining a j (sweep t (note (Listing.Rows count) b))
+    unfolding keep from
+    scan_skips h = rw (more, add-one a, eq-eqb (get_or marks a 0) 0 h)
 
-  scan_next : (a j : ℕ) (t : List ℕ) (count : ℕ) (b : List ℕ) → remaining a (suc j) (sweep t (note (Listing.Rows count) b)) ≡ remaining (suc a) j (after a t count b)
-  unfolding keep from fold go_on
-  scan_next a j t count b = by_bool (nonzero (get_or marks a 0)) (λ e. rw e) (λ e. rw e)
+    module _ (h : ¬ (get_or marks a 0 ≡ 0)) (q : Sweep) (e : q ≡ step_row f n key room (get_or heads a 0) a t count b) where
+      pub scan_goes : remaining (a + 1) i q ≡ remaining a j (sweep t (note (Listing.Rows count) b))
+      unfolding keep from fold go_on
+      scan_goes = rw (more, add-one a, ne_eqb (get_or marks a 0) 0 h, e)
 
-  module _ (a j : ℕ) (t : List ℕ) (count : ℕ) (b : List ℕ) (l : Listing) (u d : List ℕ) (e : sweep u (note l d) ≡ after a t count b) where
-    pub scan_stops : (k x : ℕ) → 0 < j → l ≡ Listing.Stopped k x → sweep u (note (Listing.Stopped k x) d) ≡ remaining a j (sweep t (note (Listing.Rows count) b))
-    scan_stops k x h p =
-        let q : j ≡ suc (j - 1) = omega arith in
-        rw q (sym (scan_next a (j - 1) t count b ∙ rw (← e, p) (stays (marked_rows marks (suc a) (j - 1)) u k x d)))
-
-    pub scan_goes : (i k : ℕ) → j ≡ suc i → l ≡ Listing.Rows k → remaining (a + 1) i (sweep u (note (Listing.Rows k) d)) ≡ remaining a j (sweep t (note (Listing.Rows count) b))
-    scan_goes i k q p = rw (q, add-one a) (sym (scan_next a i t count b ∙ rw (← e, p)))
-
-    pub scan_count : (k : ℕ) → l ≡ Listing.Rows k → k ≤ count + 1
-    scan_count k p =
-        by_bool (nonzero (get_or marks a 0))
-        (λ h. step_next f n key room (get_or heads a 0) a t count b k (sym (ap (λ (s : Sweep). s.found.listing) (rw h at e)) ∙ p))
-        (λ h. let g = ap (λ (s : Sweep). s.found.listing) (rw h at e) in let q : count ≡ k = cc in omega arith)
+      pub scan_stops : (u : List ℕ) (k x : ℕ) (d : List ℕ) → q ≡ sweep u (note (Listing.Stopped k x) d) → q ≡ remaining a j (sweep t (note (Listing.Rows count) b))
+      scan_stops u k x d p = rw p (sym (stays (marked_rows marks (a + 1) i) u k x d)) ∙ ap (remaining (a + 1) i) (sym p) ∙ scan_goes

@@ -2,22 +2,23 @@
 // go into a copy of the slot and rows into a list beside it, so that a lookup refused late has changed nothing.
 #![tactic(auto)]
 
-ghost use Rattle.std.specs.Prelude.{◌≡◌, cond, ◌≤◌, ◌<◌, length, get_or};
+ghost use Rattle.std.specs.Prelude.{◌≡◌, ◌+◌, ◌≤◌, ◌<◌, length, get_or, take};
 ghost use Rattle.words.specs.Sizes.{base};
-ghost use Rattle.words.specs.Lists.{fold, keep, from, nonzero};
+ghost use Rattle.words.specs.Lists.{fold};
 ghost use Rattle.kinds.specs.Versions.{version_at};
 ghost use Rattle.words.specs.Slots.{slot_of};
 ghost use Rattle.rules.specs.Outcome.{each};
+ghost use Rattle.kinds.specs.Results.{judged};
 ghost use Rattle.rules.specs.Verdicts.{verdict};
 ghost use Rattle.rules.specs.Read.{answer_at};
 ghost use Rattle.rules.specs.Lookup.{is_key, own_rows};
 ghost use Rattle.finds.specs.Marks.{marked, candidate_test, own_row_test};
-ghost use Rattle.finds.specs.Sweep.{note, sweep, list_at, step_row, sweep_rows, marked_rows};
-ghost use Rattle.finds.specs.declared.Listing.TheVariants.{Rows};
+ghost use Rattle.finds.specs.Sweep.{note, listing, sweep, list_at, step_row, sweep_rows, marked_rows};
+ghost use Rattle.finds.specs.Listing.{Rows};
 
-use kinds::{Cell, Verdict};
+use kinds::{Cell, Refusal};
 use reads::Sight;
-use words::{BAD_ROW, CELL_WORDS, MOST_ROWS, MOST_WRITES, RESULT_FULL, WIDTH, WRITES};
+use words::{CELL_WORDS, MOST_ROWS, WIDTH};
 
 // ---- which rows
 
@@ -25,20 +26,17 @@ use words::{BAD_ROW, CELL_WORDS, MOST_ROWS, MOST_WRITES, RESULT_FULL, WIDTH, WRI
 fn mark(marks: &mut [u64; MOST_ROWS], row: u64)
     ensures { marks.new ≡ marked row marks.old }
 {
-    if row >= MOST_ROWS as u64 {
-        return;
+    if row < MOST_ROWS as u64 {
+        marks[row as usize] = 1;
     }
-    marks[row as usize] = 1;
 }
 
 // The caller's candidates: any order, repeats allowed.
 pub fn mark_all(marks: &mut [u64; MOST_ROWS], candidates: &[u64])
     ensures { marks.new ≡ fold marked candidates.now marks.old }
 {
-    let mut i = 0;
-    while i < candidates.len() {
-        mark(marks, candidates[i]);
-        i += 1;
+    for &row in candidates {
+        mark(marks, row);
     }
 }
 
@@ -46,191 +44,132 @@ pub fn mark_all(marks: &mut [u64; MOST_ROWS], candidates: &[u64])
 pub fn mark_own(marks: &mut [u64; MOST_ROWS], slot: &[u64; WIDTH])
     ensures { marks.new ≡ fold marked (own_rows (slot_of base slot.now).writes) marks.old }
 {
-    let mut left = words::at_most(slot[WRITES], MOST_WRITES as u64);
-    let mut e = WRITES + 1;
-    while left > 0 {
-        mark(marks, slot[e]);
-        e += 3;
-        left -= 1;
+    for &[row, _, _] in lists::writes(slot) {
+        mark(marks, row);
     }
 }
 
 // The first candidate at or above r, in the order of the list.
-pub fn check_candidates(candidates: &[u64], r: u64) -> Verdict
-    ensures { result ≡ verdict (each (candidate_test r) candidates.now) }
+pub fn check_candidates(candidates: &[u64], r: u64) -> Result<(), Refusal>
+    ensures { judged result ≡ verdict (each (candidate_test r) candidates.now) }
 {
-    let mut i = 0;
-    while i < candidates.len() {
-        let row = candidates[i];
+    for &row in candidates {
         if r <= row {
-            return Verdict::Refused {
-                number: BAD_ROW,
-                value: row,
-            };
+            return Err(Refusal::BadRow(row));
         }
-        i += 1;
     }
-    Verdict::Fine
+    Ok(())
 }
 
 // An own row at or above r.
-pub fn check_own(slot: &[u64; WIDTH], r: u64) -> Verdict
-    ensures { result ≡ verdict (each (own_row_test r) (own_rows (slot_of base slot.now).writes)) }
+pub fn check_own(slot: &[u64; WIDTH], r: u64) -> Result<(), Refusal>
+    ensures { judged result ≡ verdict (each (own_row_test r) (own_rows (slot_of base slot.now).writes)) }
 {
-    let mut rest = words::at_most(slot[WRITES], MOST_WRITES as u64);
-    let mut at = WRITES + 1;
-    while rest > 0 {
-        if r <= slot[at] {
-            return Verdict::DAMAGED;
+    for &[own, _, _] in lists::writes(slot) {
+        if r <= own {
+            return Err(Refusal::Damaged);
         }
-        at += 3;
-        rest -= 1;
     }
-    Verdict::Fine
+    Ok(())
 }
 
 // ---- reading them
 
-// What a lookup has come to after some rows: how many are listed, or a refusal.
+// What is asked: the store as it is read, the key, and how many rows the caller's buffer holds.
 #[derive(Clone, Copy)]
-pub enum Listing {
-    Rows(u64),
-    Stopped { number: u64, value: u64 },
+pub struct Search<'a> {
+    pub rows: &'a [u64],
+    pub cells: &'a [[u64; CELL_WORDS]],
+    pub n: u64,
+    pub key: u64,
+    pub room: u64,
 }
 
-fn has_key(cells: &[[u64; CELL_WORDS]], c: Cell, key: u64) -> bool
-    ensures { result ≡ is_key key (answer_at (version_at cells.now) c.0) }
-{
-    if c.0 == 0 {
-        return false;
-    }
-    let v = arena::version_at(cells, c);
-    if v.keyed == 0 {
-        return false;
-    }
-    key == v.key
+// What is gathered so far: a copy of the slot, with the records in it, and the rows listed, which are the first `count` of `rows`.
+#[derive(Drop)]
+pub struct Gathered {
+    pub slot: [u64; WIDTH],
+    pub rows: [u64; MOST_ROWS],
+    pub count: u64,
+    pub ghost few: { count ≤ base.rows },
 }
 
-// The row's version was found at c: it is listed where it has the key. `room` is what the caller's buffer holds.
-fn list_row(
-    cells: &[[u64; CELL_WORDS]],
-    listed: &mut [u64; MOST_ROWS],
-    count: u64,
-    room: u64,
-    row: u64,
-    c: Cell,
-    key: u64,
-) -> Listing
-    requires { count < base.rows }
-    ensures { note result listed.new ≡ list_at (version_at cells.now) key room row count listed.old c.0 }
-{
-    if !has_key(cells, c, key) {
-        return Listing::Rows(count);
+impl Gathered {
+    // The rows listed.
+    pub fn rows(&self) -> &[u64]
+        ensures { result.now ≡ take self.now.count self.now.rows }
+    {
+        &self.rows[..self.count as usize]
     }
-    let next = count + 1;
-    if room < next {
-        return Listing::Stopped {
-            number: RESULT_FULL,
-            value: 0,
+}
+
+impl<'a> Search<'a> {
+    fn has_key(&self, c: Cell) -> bool
+        ensures { result ≡ is_key self.now.key (answer_at (version_at self.now.cells.now) c.0) }
+    {
+        if c.0 == 0 {
+            return false;
+        }
+        let v = arena::version_at(self.cells, c);
+        v.keyed != 0 && v.key == self.key
+    }
+
+    // The row's version was found at c: it is listed where it has the key.
+    fn list_row(&self, row: u64, c: Cell, found: &mut Gathered) -> Result<(), Refusal>
+        requires { found.old.count < base.rows }
+        ensures { sweep found.new.slot (note (listing found.new.count result) found.new.rows)
+            ≡ sweep found.old.slot (list_at (version_at self.now.cells.now) self.now.key self.now.room row found.old.count found.old.rows c.0) }
+    {
+        if !self.has_key(c) {
+            return Ok(());
+        }
+        if self.room <= found.count {
+            return Err(Refusal::ResultFull);
+        }
+        found.rows[found.count as usize] = row;
+        found.count += 1;
+        Ok(())
+    }
+
+    // One row read. The copy of the slot is read, so a cell found for two rows is recorded once.
+    fn step(&self, row: u64, found: &mut Gathered) -> Result<(), Refusal>
+        requires count_lt_rows { found.old.count < base.rows }
+        requires row_in_bounds { row < length self.now.rows.now }
+        ensures { sweep found.new.slot (note (listing found.new.count result) found.new.rows)
+            ≡ step_row (version_at self.now.cells.now) self.now.n self.now.key self.now.room
+            (get_or self.now.rows.now row 0) row found.old.slot found.old.count found.old.rows }
+    {
+        let head = Cell(self.rows[row as usize]);
+        let c = match reads::read_row(self.cells, self.n, &found.slot, head, row)? {
+            Sight::Known(c) => c,
+            Sight::Fresh { cell, xmin } => {
+                reads::add_record(&mut found.slot, row, cell, xmin);
+                cell
+            }
         };
+        self.list_row(row, c, found)
     }
-    listed[count as usize] = row;
-    Listing::Rows(next)
-}
 
-// One row read. `slot` is the copy, so a cell found for two rows is recorded once.
-fn step(
-    cells: &[[u64; CELL_WORDS]],
-    n: u64,
-    slot: &mut [u64; WIDTH],
-    listed: &mut [u64; MOST_ROWS],
-    count: u64,
-    room: u64,
-    row: u64,
-    head: Cell,
-    key: u64,
-) -> Listing
-    requires { count < base.rows }
-    ensures { sweep slot.new (note result listed.new)
-        ≡ step_row (version_at cells.now) n key room head.0 row slot.old count listed.old }
-{
-    match reads::read_row(cells, n, slot, head, row) {
-        Sight::Blocked { number, value } => Listing::Stopped { number, value },
-        Sight::Known(c) => list_row(cells, listed, count, room, row, c, key),
-        Sight::Fresh { cell, xmin } => {
-            reads::add_record(slot, row, cell, xmin);
-            list_row(cells, listed, count, room, row, cell, key)
-        }
-    }
-}
-
-// A row passed over where its mark is not set, else read.
-fn step_marked(
-    rows: &[u64],
-    cells: &[[u64; CELL_WORDS]],
-    n: u64,
-    slot: &mut [u64; WIDTH],
-    listed: &mut [u64; MOST_ROWS],
-    count: u64,
-    room: u64,
-    row: u64,
-    mark: u64,
-    key: u64,
-) -> Listing
-    requires count_lt_rows { count < base.rows }
-    requires row_in_bounds { row < length rows.now }
-    ensures { sweep slot.new (note result listed.new)
-        ≡ cond (nonzero mark)
-        (step_row (version_at cells.now) n key room (get_or rows.now row 0) row slot.old count listed.old)
-        (sweep slot.old (note (Rows count) listed.old)) }
-{
-    if mark == 0 {
-        return Listing::Rows(count);
-    }
-    step(
-        cells,
-        n,
-        slot,
-        listed,
-        count,
-        room,
-        row,
-        Cell(rows[row as usize]),
-        key,
-    )
-}
-
-// Every marked row below r, ascending, until one stops the lookup.
-pub fn scan(
-    rows: &[u64],
-    cells: &[[u64; CELL_WORDS]],
-    r: u64,
-    n: u64,
-    slot: &mut [u64; WIDTH],
-    marks: &[u64; MOST_ROWS],
-    listed: &mut [u64; MOST_ROWS],
-    room: u64,
-    key: u64,
-) -> Listing
-    requires r_le_rows { r ≤ base.rows }
-    requires r_in_bounds { r ≤ length rows.now }
-    ensures { sweep slot.new (note result listed.new)
-        ≡ sweep_rows (version_at cells.now) n key room rows.now (marked_rows marks.now 0 r)
-        (sweep slot.old (note (Rows 0) listed.old)) }
-{
-    let mut row: u64 = 0;
-    let mut count: u64 = 0;
-    while row < r {
-        let mark = marks[row as usize];
-        match step_marked(rows, cells, n, slot, listed, count, room, row, mark, key) {
-            Listing::Stopped { number, value } => {
-                return Listing::Stopped { number, value };
-            }
-            Listing::Rows(k) => {
-                count = k;
+    // Every marked row below r, ascending, until one stops the lookup.
+    pub fn scan(
+        &self,
+        r: u64,
+        marks: &[u64; MOST_ROWS],
+        found: &mut Gathered,
+    ) -> Result<(), Refusal>
+        requires place_for_each { found.old.count + r ≤ base.rows }
+        requires r_in_bounds { r ≤ length self.now.rows.now }
+        ensures { sweep found.new.slot (note (listing found.new.count result) found.new.rows)
+            ≡ sweep_rows (version_at self.now.cells.now) self.now.n self.now.key self.now.room
+            self.now.rows.now (marked_rows marks.now 0 r)
+            (sweep found.old.slot (note (Rows found.old.count) found.old.rows)) }
+    {
+        for row in 0..r {
+            let marked = marks[row as usize] != 0;
+            if marked {
+                self.step(row, found)?;
             }
         }
-        row += 1;
+        Ok(())
     }
-    Listing::Rows(count)
 }

@@ -14,11 +14,7 @@ use words::{CELL_WORDS, META_WORDS, SLOTS, WIDTH};
 fn fewer(wanted: u64, there: usize) -> usize
     ensures { result ≡ min wanted there }
 {
-    if wanted < there as u64 {
-        wanted as usize
-    } else {
-        there
-    }
+    wanted.min(there as u64) as usize
 }
 
 // R, N, clock 1, and cell 1 the first free one.
@@ -26,12 +22,8 @@ pub fn start(meta: &mut [u64], n: u64, r: u64)
     ensures { meta.new ≡ sets meta.old 0 (r ∷ n ∷ 1 ∷ 1 ∷ []) }
 {
     let words: [u64; META_WORDS] = [r, n, 1, 1];
-    let k = fewer(META_WORDS as u64, meta.len());
-    let mut i = 0;
-    while i < k {
-        meta[i] = words[i];
-        i += 1;
-    }
+    let k = META_WORDS.min(meta.len());
+    meta[..k].copy_from_slice(&words[..k]);
 }
 
 // Heads 0.
@@ -39,11 +31,7 @@ pub fn clear_rows(rows: &mut [u64], r: u64)
     ensures { rows.new ≡ sets rows.old 0 (replicate r 0) }
 {
     let k = fewer(r, rows.len());
-    let mut i = 0;
-    while i < k {
-        rows[i] = 0;
-        i += 1;
-    }
+    rows[..k].fill(0);
 }
 
 // The cell that is free after cell c, of n cells that are handed out in order.
@@ -58,11 +46,9 @@ pub fn free_cells(cells: &mut [[u64; CELL_WORDS]], n: u64)
     ensures { cells.new ≡ sets cells.old 0 (fresh_cells n 1) }
 {
     let k = fewer(n, cells.len());
-    let mut i = 0;
-    while i < k {
+    for (i, cell) in cells[..k].iter_mut().enumerate() {
         let link = link_after(i as u64 + 1, n);
-        cells[i] = [0, 0, 0, 0, 0, 0, 0, link];
-        i += 1;
+        *cell = [0, 0, 0, 0, 0, 0, 0, link];
     }
 }
 
@@ -70,10 +56,9 @@ pub fn free_cells(cells: &mut [[u64; CELL_WORDS]], n: u64)
 pub fn clear_slots(slots: &mut [[u64; WIDTH]])
     ensures { slots.new ≡ sets slots.old 0 (replicate base.slots (emptied base)) }
 {
-    let k = fewer(SLOTS as u64, slots.len());
-    let mut i = 0;
-    while i < k {
-        slots[i] = [0; WIDTH];
-        i += 1;
+    let k = SLOTS.min(slots.len());
+    // not `fill`: of an array's clones it was not proved that they are the array
+    for slot in slots[..k].iter_mut() {
+        *slot = [0; WIDTH];
     }
 }

@@ -1,5 +1,4 @@
-// The memory of the bench: one list of words, in which the arenas lie side by side, each longer than any store asks: five lists of words,
-// the cells, the slots, the reports.
+// The memory of the bench: five lists of words, the cells, the slots, the reports, each longer than any store asks.
 ghost use Rattle.std.specs.Prelude.{◌≤◌};
 
 use words::{CELL_WORDS, WIDTH};
@@ -13,73 +12,64 @@ pub const SLOTS: usize = 18;
 
 pub const REPORT_WORDS: usize = 3;
 
-// The lists: the header, the heads of the rows, a lookup's results, its candidates, and how many entries of each arena are lent.
-pub const META: usize = 0;
+// The header, the heads of the rows, a lookup's results and its candidates; then how many entries of each arena are lent, in the order of
+// the fields without itself.
+#[derive(Clone, Copy)]
+pub struct Memory {
+    pub meta: [u64; WORDS],
+    pub heads: [u64; WORDS],
+    pub results: [u64; WORDS],
+    pub wanted: [u64; WORDS],
+    pub lent: [u64; WORDS],
+    pub cells: [[u64; CELL_WORDS]; CELLS],
+    pub slots: [[u64; WIDTH]; SLOTS],
+    pub reports: [[u64; REPORT_WORDS]; CELLS],
+}
 
-pub const HEADS: usize = 1;
-
-pub const RESULTS: usize = 2;
-
-pub const WANTED: usize = 3;
-
-pub const LENT: usize = 4;
-
-pub const LISTS: usize = 5;
-
-// Where the other arenas begin, and the end of all.
-pub const CELLS_AT: usize = LISTS * WORDS;
-
-pub const SLOTS_AT: usize = CELLS_AT + CELLS * CELL_WORDS;
-
-pub const REPORTS_AT: usize = SLOTS_AT + SLOTS * WIDTH;
-
-pub const ALL: usize = REPORTS_AT + CELLS * REPORT_WORDS;
-
-// The last list, in the order of the script's names: how many words of each list above are lent, then how many entries of the arenas.
-pub const LENT_LISTS: usize = LENT * WORDS;
-
-pub const LENT_CELLS: usize = LENT_LISTS + 4;
-
-pub const LENT_SLOTS: usize = LENT_LISTS + 5;
-
-pub const LENT_REPORTS: usize = LENT_LISTS + 6;
-
-// A lent length is never more than there is.
-pub fn cut(x: u64, most: usize) -> usize
-    ensures { result ≤ most }
+// How many of `len` entries are lent where `lent` are said to be: all where more are said than there are.
+pub fn front_len(lent: u64, len: usize) -> usize
+    ensures { result ≤ len }
 {
-    if x < most as u64 { x as usize } else { most }
+    lent.min(len as u64) as usize
 }
 
-// The words of an arena up to the end of what is lent become `x`, the others `y`.
-fn fill_arena(mem: &mut [u64; ALL], from: usize, lent: usize, end: usize, x: u64, y: u64) {
-    for at in from..end {
-        if at >= ALL {
-            return;
-        }
-        mem[at] = if at < lent { x } else { y };
+// Each lent entry becomes `x`, the others `y`. Slice `fill` would want a clause that no clone of these fails.
+fn fill<T: Copy>(arena: &mut [T], lent: u64, x: T, y: T) {
+    let n = front_len(lent, arena.len());
+    for entry in &mut arena[..n] {
+        *entry = x;
+    }
+    for entry in &mut arena[n..] {
+        *entry = y;
     }
 }
 
-fn fill_list(mem: &mut [u64; ALL], list: usize, x: u64, y: u64) {
-    if list >= LENT {
-        return;
-    }
-    let from = list * WORDS;
-    let lent = cut(mem[LENT_LISTS + list], WORDS);
-    fill_arena(mem, from, from + lent, from + WORDS, x, y);
-}
+impl Memory {
+    pub const ZERO: Memory = Memory {
+        meta: [0; WORDS],
+        heads: [0; WORDS],
+        results: [0; WORDS],
+        wanted: [0; WORDS],
+        lent: [0; WORDS],
+        cells: [[0; CELL_WORDS]; CELLS],
+        slots: [[0; WIDTH]; SLOTS],
+        reports: [[0; REPORT_WORDS]; CELLS],
+    };
 
-// Every word of a lent entry becomes `x`, of the entries beyond `y`. The list that says what is lent stays.
-pub fn fill(mem: &mut [u64; ALL], x: u64, y: u64) {
-    fill_list(mem, META, x, y);
-    fill_list(mem, HEADS, x, y);
-    fill_list(mem, RESULTS, x, y);
-    fill_list(mem, WANTED, x, y);
-    let cells = CELLS_AT + CELL_WORDS * cut(mem[LENT_CELLS], CELLS);
-    fill_arena(mem, CELLS_AT, cells, SLOTS_AT, x, y);
-    let slots = SLOTS_AT + WIDTH * cut(mem[LENT_SLOTS], SLOTS);
-    fill_arena(mem, SLOTS_AT, slots, REPORTS_AT, x, y);
-    let reports = REPORTS_AT + REPORT_WORDS * cut(mem[LENT_REPORTS], CELLS);
-    fill_arena(mem, REPORTS_AT, reports, ALL, x, y);
+    // Every word of a lent entry becomes `x`, of the entries beyond `y`. The list that says what is lent stays.
+    pub fn fill(&mut self, x: u64, y: u64) {
+        let [meta, heads, results, wanted, cells, slots, reports, ..] = self.lent;
+        fill(&mut self.meta, meta, x, y);
+        fill(&mut self.heads, heads, x, y);
+        fill(&mut self.results, results, x, y);
+        fill(&mut self.wanted, wanted, x, y);
+        fill(&mut self.cells, cells, [x; CELL_WORDS], [y; CELL_WORDS]);
+        fill(&mut self.slots, slots, [x; WIDTH], [y; WIDTH]);
+        fill(
+            &mut self.reports,
+            reports,
+            [x; REPORT_WORDS],
+            [y; REPORT_WORDS],
+        );
+    }
 }

@@ -4,10 +4,8 @@ use Rattle.std.proofs.Math.Option.{Option, none, some}
 use Rattle.words.specs.declared.TxId.{TxId}
 use Rattle.kinds.specs.declared.Cell.{Cell}
 use Rattle.kinds.specs.declared.Version.{Version}
-use Rattle.kinds.specs.declared.Value.{Value}
-use Rattle.kinds.specs.declared.Value.TheVariants.{Nothing}
-use Rattle.kinds.specs.declared.ReadAnswer.{ReadAnswer}
-use Rattle.kinds.specs.declared.ReadAnswer.TheVariants.{Empty, Key}
+use Rattle.kinds.specs.ReadAnswer.{ReadAnswer, Empty, Key}
+use Rattle.std.specs.Prelude.{Option as Maybe, Some, None}
 use Rattle.words.specs.Lists.{nonzero}
 
 abbrev pub tx : ℕ → TxId
@@ -52,9 +50,9 @@ key_of none = 0
 key_of (some k) = k
 
 -- the value that a caller gives
-abbrev pub given : Value → Option ℕ
-given Nothing = none
-given (Value.Key k) = some k
+abbrev pub given : Maybe ℕ → Option ℕ
+given None = none
+given (Some k) = some k
 
 abbrev pub with_value : Version → Option ℕ → Version
 with_value v o = record { xmin = v.xmin; xmax = v.xmax; next = v.next; keyed = keyed_of o; key = key_of o; locked = v.locked; owner = v.owner }

@@ -1,18 +1,22 @@
 // The kinds of the version store, and what belongs to a version. What the calls mean stands in `rules`.
 #![tactic(auto)]
 
+mod refusals;
+
 ghost use Rattle.std.specs.Prelude.{◌≡◌};
 ghost use Rattle.words.specs.Sizes.{base};
 ghost use Rattle.words.specs.Slots.{slot_of};
-ghost use Rattle.kinds.specs.Versions.{with_xmax, with_next, with_value, locked_for, unlocked, new_version, locked_by_other, given, reclaimable};
+ghost use Rattle.kinds.specs.Results.{reading};
+ghost use Rattle.kinds.specs.Versions.{value_of, with_xmax, with_next, with_value, locked_for, unlocked, new_version, locked_by_other, given, reclaimable};
 ghost use Rattle.kinds.specs.Visible.{creator_visible, visible};
 
-use words::{DAMAGED, ID, TOP, TxId, WIDTH, is_active};
+pub use refusals::Refusal;
+use words::{ID, TOP, TxId, WIDTH, is_active};
 
 // ---- kinds
 
 // A cell's number. A transaction's id is of another kind, so the two cannot be mixed.
-#[derive(Clone, Copy)]
+#[derive(Clone, Copy, PartialEq, Eq)]
 pub struct Cell(pub u64);
 
 // The two flags are words as they lie, nonzero is set: a version that is read and put back keeps a lent 7.
@@ -27,46 +31,26 @@ pub struct Version {
     pub owner: TxId,
 }
 
-// A row's value as a caller gives it: a key, or none to delete.
-#[derive(Clone, Copy)]
-pub enum Value {
-    Nothing,
-    Key(u64),
-}
-
-// What a read answers: no version, a version without a key, a key; or a refusal, its number and value.
-#[derive(Clone, Copy)]
-pub enum ReadAnswer {
+// What a read finds in a row: no version, a version without a key, a key.
+#[derive(Clone, Copy, PartialEq, Eq)]
+pub enum Reading {
     None,
     Empty,
     Key(u64),
-    Refused { number: u64, value: u64 },
 }
 
-// What every other call answers.
-#[derive(Clone, Copy)]
-pub enum Answer {
-    Done,
-    Begun { slot: u64, id: TxId },
-    Wrote(Cell),
-    Vacuumed { count: u64, live: ReadAnswer },
-    Listed(u64),
-    Refused { number: u64, value: u64 },
+// A transaction begun: its slot and its id.
+#[derive(Clone, Copy, PartialEq, Eq)]
+pub struct Begun {
+    pub slot: u64,
+    pub id: TxId,
 }
 
-// What a list of tests comes to: none fails, or the first that does.
-#[derive(Clone, Copy)]
-pub enum Verdict {
-    Fine,
-    Refused { number: u64, value: u64 },
-}
-
-impl Verdict {
-    // 15, which tells nothing more.
-    pub const DAMAGED: Verdict = Verdict::Refused {
-        number: DAMAGED,
-        value: 0,
-    };
+// A row vacuumed: how many versions are gone, and the live value.
+#[derive(Clone, Copy, PartialEq, Eq)]
+pub struct Vacuumed {
+    pub count: u64,
+    pub live: Reading,
 }
 
 // ---- visibility
@@ -74,16 +58,7 @@ impl Verdict {
 pub fn is_creator_visible(slot: &[u64; WIDTH], x: TxId) -> bool
     ensures { result ≡ creator_visible (slot_of base slot.now) x.0 }
 {
-    if x.0 == 0 {
-        return false;
-    }
-    if x.0 == slot[ID] {
-        return true;
-    }
-    if x.0 >= slot[TOP] {
-        return false;
-    }
-    !is_active(slot, x)
+    x.0 != 0 && (x.0 == slot[ID] || x.0 < slot[TOP] && !is_active(slot, x))
 }
 
 impl Version {
@@ -98,50 +73,44 @@ impl Version {
     };
 
     // 000's `new_row`: nothing is set but these.
-    pub fn new(value: Value, xmin: TxId, next: Cell) -> Version
+    pub fn new(value: Option<u64>, xmin: TxId, next: Cell) -> Version
         ensures { result ≡ new_version (given value) xmin.0 next.0 }
     {
-        let mut v = Version::EMPTY.with_value(value);
-        v.xmin = xmin;
-        v.next = next;
-        v
+        Version {
+            xmin,
+            next,
+            ..Version::EMPTY.with_value(value)
+        }
     }
 
     // The reader is a slot, as it lies in its arena.
     pub fn is_visible(self, slot: &[u64; WIDTH]) -> bool
         ensures { result ≡ visible (slot_of base slot.now) self }
     {
-        let xmin = self.xmin;
-        if !is_creator_visible(slot, xmin) {
-            return false;
+        is_creator_visible(slot, self.xmin)
+            && !(self.xmax.0 != 0 && is_creator_visible(slot, self.xmax))
+    }
+
+    // What the row holds where this is its version: no key, or a key.
+    pub fn reading(self) -> Reading
+        ensures { reading result ≡ value_of self }
+    {
+        if self.keyed == 0 {
+            return Reading::Empty;
         }
-        let xmax = self.xmax;
-        if xmax.0 == 0 {
-            return true;
-        }
-        !is_creator_visible(slot, xmax)
+        Reading::Key(self.key)
     }
 
     pub fn is_locked_by_other(self, id: TxId) -> bool
         ensures { result ≡ locked_by_other self id.0 }
     {
-        if self.locked == 0 {
-            return false;
-        }
-        self.owner.0 != id.0
+        self.locked != 0 && self.owner != id
     }
 
     pub fn is_reclaimable(self, horizon: u64) -> bool
         ensures { result ≡ reclaimable horizon self }
     {
-        let ended = self.xmax;
-        if ended.0 == 0 {
-            return false;
-        }
-        if ended.0 >= horizon {
-            return false;
-        }
-        self.locked == 0
+        self.xmax.0 != 0 && self.xmax.0 < horizon && self.locked == 0
     }
 
     pub fn with_xmax(mut self, id: TxId) -> Version
@@ -151,21 +120,14 @@ impl Version {
         self
     }
 
-    pub fn with_value(mut self, value: Value) -> Version
+    pub fn with_value(mut self, value: Option<u64>) -> Version
         ensures { result ≡ with_value self (given value) }
     {
-        match value {
-            Value::Nothing => {
-                self.keyed = 0;
-                self.key = 0;
-                self
-            }
-            Value::Key(k) => {
-                self.keyed = 1;
-                self.key = k;
-                self
-            }
-        }
+        (self.keyed, self.key) = match value {
+            None => (0, 0),
+            Some(k) => (1, k),
+        };
+        self
     }
 
     pub fn with_next(mut self, next: Cell) -> Version
@@ -187,8 +149,7 @@ impl Version {
         ensures { result ≡ unlocked self }
     {
         self.locked = 0;
-        let none = TxId(0);
-        self.owner = none;
+        self.owner = TxId(0);
         self
     }
 }

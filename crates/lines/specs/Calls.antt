@@ -1,5 +1,5 @@
 -- A record read as a call: the word first, its numbers, and what follows them.
-use Rattle.std.specs.Prelude.{ℕ, List, [], ◌≡◌, refl, length, take}
+use Rattle.std.specs.Prelude.{ℕ, Option, Some, List, [], ◌≡◌, refl, length, take}
 use Rattle.std.proofs.Common.{sym, ◌∙◌, arith}
 use Rattle.std.proofs.Math.Path.{ap}
 use Rattle.std.proofs.Math.Nat.{sub-zero}
@@ -47,14 +47,13 @@ call_is Word.Find fs = refl
 call_is Word.Other fs = refl
 
 -- w is the word that the code found, which ends at e, n how many numbers it looked for, r what it found of them
-module _ (s : List ℕ) (e : ℕ) (cut : Cut s 0 e) (w : Word) (found : w ≡ word_of (take e s)) (n : ℕ) (many : n ≡ numbers_of w) (r : Numbers) (t : Counted s e n r) where
+module _ (s : List ℕ) (e : ℕ) (cut : Cut s 0 e) (w : Word) (found : w ≡ word_of (take e s)) (n : ℕ) (many : n ≡ numbers_of w) where
   worded : meaning s ≡ call w (rest s e)
   unfolding meaning line_of
   worded = ap line_of cut.fields ∙ rw (sub-zero e) (ap (λ (w : Word). call w (rest s e)) (sym found))
 
-  pub means : (x : Numbers) → r ≡ x → numbers_end (ending w) s x ≡ meaning s
-  means x is =
-      sym (worded ∙ call_is w (rest s e) ∙ ap (λ (n : ℕ). numbered n (ending w) 0 0 0 (rest s e)) (sym many) ∙ t.all (ending w) ∙ ap (numbers_end (ending w) s) is)
+  pub means : (r : Option Numbers) → Counted s e n r → numbers_end (ending w) s r ≡ meaning s
+  means r t = sym (worded ∙ call_is w (rest s e) ∙ ap (λ (n : ℕ). numbered n (ending w) 0 0 0 (rest s e)) (sym many) ∙ t.all (ending w))
 
-  pub means_all : (a b c i : ℕ) → r ≡ Numbers.Are a b c i → i ≡ length s → ending w a b c [] ≡ meaning s
-  means_all a b c i is h = ap (ending w a b c) (sym (rest_none s i (omega arith))) ∙ means (Numbers.Are a b c i) is
+  pub means_all : (x : Numbers) → Counted s e n (Some x) → x.end ≡ length s → ending w x.a x.b x.c [] ≡ meaning s
+  means_all x t h = ap (ending w x.a x.b x.c) (sym (rest_none s x.end (omega arith))) ∙ means (Some x) t

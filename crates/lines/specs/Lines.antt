@@ -1,6 +1,5 @@
 -- What a record means: its fields stand between commas, the first is the word of a call, the others are its numbers.
-use Rattle.std.specs.Prelude.{ℕ, Bool, true, false, ◌&&◌, cond, List, [], ◌∷◌, eqb}
-use Rattle.std.proofs.Math.Option.{Option, none, some}
+use Rattle.std.specs.Prelude.{ℕ, Bool, true, false, ◌&&◌, cond, Option, None, Some, List, [], ◌∷◌, eqb}
 use Rattle.digits.specs.Numbers.{number_of}
 use Rattle.lines.specs.declared.Line.{Line}
 use Rattle.lines.specs.declared.Word.{Word}
@@ -70,8 +69,8 @@ word_of w =
 
 -- nothing where there is no number
 abbrev pub on_number : Option ℕ → (ℕ → Line) → Line
-on_number none k = Line.Other
-on_number (some n) k = k n
+on_number None k = Line.Other
+on_number (Some n) k = k n
 
 -- a field that is a number, and then the fields after it
 unfoldable pub number : (ℕ → List (List ℕ) → Line) → List (List ℕ) → Line

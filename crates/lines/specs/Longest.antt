@@ -1,6 +1,5 @@
 -- How long a record can be that means a call.
-use Rattle.std.specs.Prelude.{ℕ, zero, suc, ◌+◌, ◌-◌, ◌*◌, ◌<◌, Bool, true, false, List, [], ◌∷◌, ◌≡◌, refl, eqb, ltb, length, take}
-use Rattle.std.proofs.Math.Option.{Option, none, some}
+use Rattle.std.specs.Prelude.{ℕ, zero, suc, ◌+◌, ◌-◌, ◌*◌, ◌<◌, Bool, true, false, Option, None, Some, List, [], ◌∷◌, ◌≡◌, refl, eqb, ltb, length, take}
 use Rattle.std.proofs.Common.{sym, ap, ◌∙◌, arith, length-take, take_all, ltb-true, ltb-false}
 use Rattle.digits.specs.Numbers.{number_of, most}
 use Rattle.digits.specs.Laws.{too_long_for_a_number}
@@ -46,8 +45,8 @@ number_long m k rest [] h = absurd (omega arith)
 number_long m k rest (f ∷ fs) h = by (ltb most (length f)) refl
   where
     on : m < total fs → (o : Option ℕ) → number_of f ≡ o → number k (f ∷ fs) ≡ Line.Other
-    on g none e = rw e
-    on g (some n) e = rw e (rest n fs g)
+    on g None e = rw e
+    on g (Some n) e = rw e (rest n fs g)
 
     by : (t : Bool) → ltb most (length f) ≡ t → number k (f ∷ fs) ≡ Line.Other
     by true e = rw (too_long_for_a_number f (ltb-true most (length f) e))

@@ -1,15 +1,13 @@
 // One record of the replay program, a line without its end, read as a call. specs/Lines.antt says what a record means.
 #![tactic(auto)]
 
-ghost use Rattle.std.specs.Prelude.{◌≡◌, [], ◌<◌, ◌≤◌, length};
+ghost use Rattle.std.specs.Prelude.{◌≡◌, eqb, [], ◌<◌, ◌≤◌, ◌↔◌, IsTrue, length, position};
 ghost use Rattle.lines.specs.Lines.{meaning, word_of};
-ghost use Rattle.lines.specs.Lines.{same as Lines·same};
 ghost use Rattle.lines.specs.Fields.{rest, Cut, Stepped, Counted};
 ghost use Rattle.lines.specs.Calls.{numbers_of, ending};
 
-use digits::Number;
-
-// A call, with its numbers as the record gives them.
+// A call, with its numbers as the record gives them. A record that is no call is a case of its own, and no Option: so say `meaning` and the
+// theorems on it (`too_long_for_a_call`, `cut_means_the_same`).
 #[derive(Clone, Copy)]
 pub enum Line {
     Store {
@@ -53,7 +51,7 @@ pub enum Line {
     Other,
 }
 
-// The word of a call.
+// The word of a call, or another: `word_of` and `ending` have a line for it.
 #[derive(Clone, Copy)]
 pub enum Word {
     Store,
@@ -69,35 +67,25 @@ pub enum Word {
 
 // A number field, and the place after it: a comma or the end.
 #[derive(Clone, Copy)]
-pub enum Field {
-    Nothing,
-    Is { value: u64, end: usize },
+pub struct Field {
+    pub value: u64,
+    pub end: usize,
 }
 
 // Number fields, one after another, and the place after them. Fewer than three stand last.
 #[derive(Clone, Copy)]
-pub enum Numbers {
-    Nothing,
-    Are { a: u64, b: u64, c: u64, end: usize },
+pub struct Numbers {
+    pub a: u64,
+    pub b: u64,
+    pub c: u64,
+    pub end: usize,
 }
 
-const COMMA: u8 = 44;
-
-// Are the two the same bytes?
-fn same(s: &[u8], w: &[u8]) -> bool
-    ensures { result ≡ Lines·same s.now w.now }
+// The place of the first comma.
+fn first_comma(s: &[u8]) -> Option<usize>
+    ensures { result ≡ position (λ b. eqb b 44) s.now }
 {
-    if s.len() != w.len() {
-        return false;
-    }
-    let mut i = 0;
-    while i < s.len() {
-        if s[i] != w[i] {
-            return false;
-        }
-        i += 1;
-    }
-    true
+    s.iter().position(|b| *b == b',')
 }
 
 // The place of the first comma from a place on, or the end.
@@ -105,55 +93,47 @@ fn comma(s: &[u8], from: usize) -> usize
     requires { from ≤ length s.now }
     ensures { Cut s.now from result }
 {
-    let mut i = from;
-    while i < s.len() {
-        if s[i] == COMMA {
-            return i;
-        }
-        i += 1;
+    match first_comma(&s[from..]) {
+        Some(i) => from + i,
+        None => s.len(),
     }
-    i
 }
 
 // The field that starts after the comma at a place, read as a number. At the end there is none.
-fn number_at(s: &[u8], at: usize) -> Field
+fn number_at(s: &[u8], at: usize) -> Option<Field>
     requires { at ≤ length s.now }
     ensures { Stepped s.now at result }
 {
     if at >= s.len() {
-        return Field::Nothing;
+        return None;
     }
     let from = at + 1;
     let end = comma(s, from);
-    match digits::parse(&s[from..end]) {
-        Number::Is(value) => Field::Is { value, end },
-        Number::Nothing => Field::Nothing,
-    }
+    let value = digits::parse(&s[from..end])?;
+    Some(Field { value, end })
 }
 
 // A number of fields read as numbers, from the comma at a place on.
-fn numbers_at(s: &[u8], at: usize, n: usize) -> Numbers
+fn numbers_at(s: &[u8], at: usize, n: usize) -> Option<Numbers>
     requires { at ≤ length s.now }
     ensures { Counted s.now at n result }
 {
-    let mut a = 0;
-    let mut b = 0;
-    let mut c = 0;
-    let mut end = at;
-    let mut left = n;
-    while left > 0 {
-        match number_at(s, end) {
-            Field::Nothing => return Numbers::Nothing,
-            Field::Is { value, end: next } => {
-                a = b;
-                b = c;
-                c = value;
-                end = next;
-            }
-        }
-        left -= 1;
+    let mut all = Numbers {
+        a: 0,
+        b: 0,
+        c: 0,
+        end: at,
+    };
+    for _ in 0..n {
+        let Field { value, end } = number_at(s, all.end)?;
+        all = Numbers {
+            a: all.b,
+            b: all.c,
+            c: value,
+            end,
+        };
     }
-    Numbers::Are { a, b, c, end }
+    Some(all)
 }
 
 // The field after a call's numbers: a write's key, or nothing after its comma. No other call has one.
@@ -168,48 +148,42 @@ fn key_at(s: &[u8], at: usize, w: Word, slot: u64, id: u64, row: u64) -> Line
         return Line::Delete { slot, id, row };
     }
     match number_at(s, at) {
-        Field::Nothing => Line::Other,
-        Field::Is {
-            value: key,
-            end: last,
-        } => {
-            if last == s.len() {
-                return Line::Write { slot, id, row, key };
-            }
-            Line::Other
-        }
+        Some(Field { value: key, end }) if end == s.len() => Line::Write { slot, id, row, key },
+        _ => Line::Other,
     }
 }
 
-// The word that the bytes are.
+// Are the two the same bytes? Not `==` on slices: words are short, and it was slower.
+fn same(s: &[u8], w: &[u8]) -> bool
+    ensures { IsTrue result ↔ (s.now ≡ w.now) }
+{
+    s.len() == w.len() && s.iter().zip(w).all(|(a, b)| *a == *b)
+}
+
+// The word that the bytes are. Not a `match` on byte strings: of those a proof knows the lengths alone.
+#[tactic(auto, using(crate::specs::Words::same_true, crate::specs::Words::same_false), unfolding(crate::specs::Lines::word_of))]
 fn word_of(s: &[u8]) -> Word
     ensures { result ≡ word_of s.now }
 {
     if same(s, b"store") {
-        return Word::Store;
+        Word::Store
+    } else if same(s, b"begin") {
+        Word::Begin
+    } else if same(s, b"read") {
+        Word::Read
+    } else if same(s, b"write") {
+        Word::Write
+    } else if same(s, b"commit") {
+        Word::Commit
+    } else if same(s, b"abort") {
+        Word::Abort
+    } else if same(s, b"vacuum") {
+        Word::Vacuum
+    } else if same(s, b"find") {
+        Word::Find
+    } else {
+        Word::Other
     }
-    if same(s, b"begin") {
-        return Word::Begin;
-    }
-    if same(s, b"read") {
-        return Word::Read;
-    }
-    if same(s, b"write") {
-        return Word::Write;
-    }
-    if same(s, b"commit") {
-        return Word::Commit;
-    }
-    if same(s, b"abort") {
-        return Word::Abort;
-    }
-    if same(s, b"vacuum") {
-        return Word::Vacuum;
-    }
-    if same(s, b"find") {
-        return Word::Find;
-    }
-    Word::Other
 }
 
 // How many numbers follow a word; a write's key comes after them.
@@ -217,19 +191,14 @@ fn numbers_of(w: Word) -> usize
     ensures { result ≡ numbers_of w }
 {
     match w {
-        Word::Store => 2,
-        Word::Begin => 0,
-        Word::Read => 3,
-        Word::Write => 3,
-        Word::Commit => 2,
-        Word::Abort => 2,
-        Word::Vacuum => 2,
-        Word::Find => 3,
-        Word::Other => 0,
+        Word::Begin | Word::Other => 0,
+        Word::Store | Word::Commit | Word::Abort | Word::Vacuum => 2,
+        Word::Read | Word::Write | Word::Find => 3,
     }
 }
 
 // The call of a word and its numbers, where no field follows: a write lacks its key.
+#[tactic(auto, unfolding(crate::specs::Calls::ending, crate::specs::Lines::done, crate::specs::Lines::keyed))]
 fn made(w: Word, a: u64, b: u64, c: u64) -> Line
     ensures { result ≡ ending w a b c [] }
 {
@@ -241,7 +210,6 @@ fn made(w: Word, a: u64, b: u64, c: u64) -> Line
             id: b,
             row: c,
         },
-        Word::Write => Line::Other,
         Word::Commit => Line::Commit { slot: b, id: c },
         Word::Abort => Line::Abort { slot: b, id: c },
         Word::Vacuum => Line::Vacuum { row: b, request: c },
@@ -250,7 +218,7 @@ fn made(w: Word, a: u64, b: u64, c: u64) -> Line
             id: b,
             key: c,
         },
-        Word::Other => Line::Other,
+        Word::Write | Word::Other => Line::Other,
     }
 }
 
@@ -260,13 +228,12 @@ pub fn parse_line(s: &[u8]) -> Line
 {
     let e = comma(s, 0);
     let w = word_of(&s[..e]);
-    match numbers_at(s, e, numbers_of(w)) {
-        Numbers::Nothing => Line::Other,
-        Numbers::Are { a, b, c, end } => {
-            if end == s.len() {
-                return made(w, a, b, c);
-            }
-            key_at(s, end, w, a, b, c)
-        }
+    let Some(Numbers { a, b, c, end }) = numbers_at(s, e, numbers_of(w)) else {
+        return Line::Other;
+    };
+    if end == s.len() {
+        made(w, a, b, c)
+    } else {
+        key_at(s, end, w, a, b, c)
     }
 }

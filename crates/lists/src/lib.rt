@@ -4,8 +4,34 @@
 ghost use Rattle.std.specs.Prelude.{◌≡◌, ◌+◌, ◌*◌, ◌≤◌, get_or};
 ghost use Rattle.words.specs.Sizes.{base};
 ghost use Rattle.words.specs.Slots as spec;
+ghost use Rattle.words.specs.Slots.{slot_of};
+ghost use Rattle.lists.specs.Triples.{triples, entries, records};
 
-use words::WIDTH;
+use words::{MOST_READS, MOST_WRITES, READS, WIDTH, WRITES};
+
+// The triples of the list whose count stands at `place`: as many as the count says, and at most `most`.
+fn triples(slot: &[u64; WIDTH], place: usize, most: usize) -> &[[u64; 3]]
+    requires { place + (3 * most + 1) ≤ base.width }
+    ensures { result.now ≡ triples slot.now place most }
+{
+    let count = slot[place].min(most as u64) as usize;
+    let (all, _) = slot[place + 1..].as_chunks::<3>();
+    &all[..count]
+}
+
+// The slot's writes: of each the row, its base and its new cell.
+pub fn writes(slot: &[u64; WIDTH]) -> &[[u64; 3]]
+    ensures { entries result.now ≡ (slot_of base slot.now).writes }
+{
+    triples(slot, WRITES, MOST_WRITES)
+}
+
+// The slot's read records: of each the row, the cell and its recorded xmin.
+pub fn records(slot: &[u64; WIDTH]) -> &[[u64; 3]]
+    ensures { records result.now ≡ (slot_of base slot.now).recs }
+{
+    triples(slot, READS, MOST_READS)
+}
 
 // One triple more in the list whose count stands at `place`.
 pub fn push(slot: &mut [u64; WIDTH], place: usize, x: u64, y: u64, z: u64)

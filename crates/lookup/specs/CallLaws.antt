@@ -3,7 +3,7 @@ use Rattle.std.specs.Prelude.{ℕ, ◌≤◌, ◌≡◌}
 use mathlib.Core.List.{List, []}
 use Rattle.std.proofs.Math.Path.{sym, ap}
 use Rattle.std.proofs.Common.{◌∙◌}
-use Rattle.kinds.specs.declared.Verdict.{Verdict}
+use Rattle.kinds.specs.Verdict.{Verdict}
 use Rattle.words.specs.Sizes.{base}
 use Rattle.words.specs.Lists.{fold}
 use Rattle.rules.specs.Memory.{Mem, size_r, slot_at}

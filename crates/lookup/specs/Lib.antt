@@ -1,4 +1,3 @@
-pub mod FillLaws
 pub mod RowLaws
 pub mod LookupRest
 pub mod SearchLaws

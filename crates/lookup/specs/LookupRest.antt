@@ -3,9 +3,8 @@ use Rattle.std.specs.Prelude.{ℕ, List, [], ◌≡◌, length}
 use Rattle.std.proofs.Math.Path.{refl, sym}
 use Rattle.std.proofs.Common.{subst}
 use Rattle.std.proofs.lemmas.List.Edits.{sets}
-use Rattle.kinds.specs.declared.Answer.{Answer}
-use Rattle.kinds.specs.declared.Answer.TheVariants.{Listed}
-use Rattle.kinds.specs.declared.Verdict.{Verdict}
+use Rattle.kinds.specs.Answer.{Answer, Listed}
+use Rattle.kinds.specs.Verdict.{Verdict}
 use Rattle.words.specs.Sizes.{Sizes, base}
 use Rattle.words.specs.Lists.{from}
 use Rattle.words.specs.Slots.{Rec, add_recs}

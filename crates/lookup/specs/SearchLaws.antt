@@ -2,15 +2,14 @@
 use Rattle.std.specs.Prelude.{ℕ, ◌≤◌, List, ◌≡◌, length, take}
 use Rattle.std.proofs.Common.{arith}
 use Rattle.std.proofs.lemmas.List.Edits.{sets}
-use Rattle.kinds.specs.declared.Answer.{Answer}
-use Rattle.kinds.specs.declared.Answer.TheVariants.{Listed}
-use Rattle.kinds.specs.declared.Verdict.{Verdict}
+use Rattle.kinds.specs.Answer.{Answer, Listed}
+use Rattle.kinds.specs.Verdict.{Verdict}
 use Rattle.words.specs.Sizes.{base}
 use Rattle.kinds.specs.Versions.{version_at}
 use Rattle.rules.specs.Memory.{Mem, size_r, size_n, words_at, with_slot}
 use Rattle.rules.specs.Theory.SlotLaws.{SlotOk}
 use Rattle.gate.specs.FineLaws.{SlotFine}
-use Rattle.finds.specs.declared.Listing.{Listing}
+use Rattle.finds.specs.Listing.{Listing}
 use Rattle.finds.specs.Sweep.{note, sweep, sweep_rows, marked_rows}
 use Rattle.finds.specs.FindLaws.{Got, find_stopped, find_rows}
 use Rattle.lookup.specs.RowLaws.{marked_few}

@@ -2,27 +2,25 @@
 // caller's buffer. All rows are read first: slot and buffer are written at the end, so a refused lookup leaves both as they were.
 #![tactic(auto)]
 
-ghost use Rattle.std.specs.Prelude.{◌≡◌, ◌≤◌, length, take};
+ghost use Rattle.std.specs.Prelude.{◌≡◌, ◌≤◌, length};
 ghost use Rattle.std.proofs.lemmas.List.Edits.{sets};
 ghost use Rattle.words.specs.Sizes.{base};
 ghost use Rattle.rules.specs.Memory.{mem};
 ghost use Rattle.rules.specs.Lookup.{front_of};
 ghost use Rattle.rules.specs.Lent.{lent};
+ghost use Rattle.kinds.specs.Results.{judged, listed};
 ghost use Rattle.gate.specs.FineLaws.{SlotFine};
 ghost use Rattle.lookup.specs.LookupRest.{Filled, search_out, rows_out, lookup_rest, lookup_all_rest};
 
-use finds::Listing;
-use kinds::{Answer, Verdict};
+use finds::{Gathered, Search};
+use kinds::Refusal;
 use words::{CELL_WORDS, CELLS, MOST_ROWS, ROWS, TxId, WIDTH};
 
 // The first `count` entries of the buffer: all of them where count is past the end.
 pub fn front<'a>(buffer: &'a [u64], count: u64) -> &'a [u64]
     ensures { result.now ≡ front_of buffer.now count }
 {
-    if (buffer.len() as u64) < count {
-        return buffer;
-    }
-    let end = count as usize;
+    let end = count.min(buffer.len() as u64) as usize;
     &buffer[..end]
 }
 
@@ -30,30 +28,17 @@ pub fn front<'a>(buffer: &'a [u64], count: u64) -> &'a [u64]
 pub fn front_mut<'a>(buffer: &'a mut [u64], count: u64) -> &'a mut [u64]
     ensures { result.now ≡ front_of buffer.old count }
 {
-    if count > buffer.len() as u64 {
-        return buffer;
-    }
-    let n = count as usize;
-    &mut buffer[..n]
+    let end = count.min(buffer.len() as u64) as usize;
+    &mut buffer[..end]
 }
 
 // The rows listed, at the front of the caller's buffer.
-fn fill(results: &mut [u64], listed: &[u64; MOST_ROWS], count: u64)
-    requires { (count ≤ base.rows) × ((count ≤ length results.old) × (length (take count listed.now) ≡ count)) }
-    ensures { results.new ≡ sets results.old 0 (take count listed.now) }
+fn fill(results: &mut [u64], listed: &[u64])
+    requires { length listed.now ≤ length results.old }
+    ensures { results.new ≡ sets results.old 0 listed.now }
 {
-    let n = count as usize;
-    let mut i = 0;
-    while i < n {
-        results[i] = listed[i];
-        i += 1;
-    }
+    results[..listed.len()].copy_from_slice(listed);
 }
-
-// An array of the slots has all its words.
-fn width(slot: [u64; WIDTH])
-    ensures { length slot ≡ base.width }
-{}
 
 // The marked rows are read; `late` is what refuses the lookup after all of them. Records are gathered in a copy of the slot.
 fn search(
@@ -65,31 +50,32 @@ fn search(
     id: TxId,
     key: u64,
     marks: &[u64; MOST_ROWS],
-    late: Verdict,
+    late: Result<(), Refusal>,
     results: &mut [u64],
-) -> Answer
+) -> Result<u64, Refusal>
     requires { SlotFine (mem {z = base} meta.now rows.now cells.now slots.old) slot id.0 }
-    ensures { Filled (search_out (lent meta.now rows.now cells.now slots.old) slot key marks.now late (length results.old))
-        result (lent meta.now rows.now cells.now slots.new) results.old results.new }
+    ensures { Filled (search_out (lent meta.now rows.now cells.now slots.old) slot key marks.now (judged late) (length results.old))
+        (listed result) (lent meta.now rows.now cells.now slots.new) results.old results.new }
 {
     let s = slot as usize;
-    let mut copy = slots[s];
-    width(copy);
-    let mut listed = [0; MOST_ROWS];
-    let room = results.len() as u64;
-    let r = meta[ROWS];
-    let n = meta[CELLS];
-    match finds::scan(rows, cells, r, n, &mut copy, marks, &mut listed, room, key) {
-        Listing::Stopped { number, value } => Answer::Refused { number, value },
-        Listing::Rows(count) => match late {
-            Verdict::Refused { number, value } => Answer::Refused { number, value },
-            Verdict::Fine => {
-                slots[s] = copy;
-                fill(results, &listed, count);
-                Answer::Listed(count)
-            }
-        },
-    }
+    let asked = Search {
+        rows,
+        cells,
+        n: meta[CELLS],
+        key,
+        room: results.len() as u64,
+    };
+    // Made in place: a function that returned it would copy it once more.
+    let mut found = Gathered {
+        slot: slots[s],
+        rows: [0; MOST_ROWS],
+        count: 0,
+    };
+    asked.scan(meta[ROWS], marks, &mut found)?;
+    late?;
+    slots[s] = found.slot;
+    fill(results, found.rows());
+    Ok(found.count)
 }
 
 // The candidates are rows of the store: they and the own rows are read.
@@ -103,10 +89,10 @@ fn lookup_rows(
     key: u64,
     candidates: &[u64],
     results: &mut [u64],
-) -> Answer
+) -> Result<u64, Refusal>
     requires { SlotFine (mem {z = base} meta.now rows.now cells.now slots.old) slot id.0 }
     ensures { Filled (rows_out (lent meta.now rows.now cells.now slots.old) slot key candidates.now (length results.old))
-        result (lent meta.now rows.now cells.now slots.new) results.old results.new }
+        (listed result) (lent meta.now rows.now cells.now slots.new) results.old results.new }
 {
     let s = slot as usize;
     let mut marks = [0; MOST_ROWS];
@@ -129,15 +115,13 @@ pub fn lookup(
     key: u64,
     candidates: &[u64],
     results: &mut [u64],
-) -> Answer
+) -> Result<u64, Refusal>
     requires { SlotFine (mem {z = base} meta.now rows.now cells.now slots.old) slot id.0 }
     ensures { Filled (lookup_rest (lent meta.now rows.now cells.now slots.old) slot key candidates.now (length results.old))
-        result (lent meta.now rows.now cells.now slots.new) results.old results.new }
+        (listed result) (lent meta.now rows.now cells.now slots.new) results.old results.new }
 {
-    match finds::check_candidates(candidates, meta[ROWS]) {
-        Verdict::Refused { number, value } => Answer::Refused { number, value },
-        Verdict::Fine => lookup_rows(meta, rows, cells, slots, slot, id, key, candidates, results),
-    }
+    finds::check_candidates(candidates, meta[ROWS])?;
+    lookup_rows(meta, rows, cells, slots, slot, id, key, candidates, results)
 }
 
 // The rows with this key among all rows.
@@ -150,10 +134,10 @@ pub fn lookup_all(
     id: TxId,
     key: u64,
     results: &mut [u64],
-) -> Answer
+) -> Result<u64, Refusal>
     requires { SlotFine (mem {z = base} meta.now rows.now cells.now slots.old) slot id.0 }
     ensures { Filled (lookup_all_rest (lent meta.now rows.now cells.now slots.old) slot key (length results.old))
-        result (lent meta.now rows.now cells.now slots.new) results.old results.new }
+        (listed result) (lent meta.now rows.now cells.now slots.new) results.old results.new }
 {
     let marks = [1; MOST_ROWS];
     search(
@@ -165,7 +149,7 @@ pub fn lookup_all(
         id,
         key,
         &marks,
-        Verdict::Fine,
+        Ok(()),
         results,
     )
 }

@@ -1,3 +1,1 @@
-pub mod Gathered
-pub mod PlaceLaws
 pub mod OpenedAt

@@ -7,7 +7,7 @@ use Rattle.std.proofs.Common.{ap, length-append}
 use native.Mathlib.Omega.{arith}
 use Rattle.std.proofs.Math.Dec.{leb}
 use borrow.Author.Tests.{ltb-false, leb-false}
-use Rattle.kinds.specs.declared.Answer.{Answer}
+use Rattle.kinds.specs.Answer.{Answer}
 use Rattle.words.specs.Sizes.{Sizes}
 use Rattle.rules.specs.Numbers.{result_full}
 use Rattle.words.specs.Lists.{keep, fold, from}

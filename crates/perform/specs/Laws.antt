@@ -5,9 +5,9 @@ use Rattle.std.proofs.Math.Option.{none, some}
 use Rattle.std.proofs.Math.Path.{refl, sym, ap}
 use Rattle.std.proofs.Common.{◌∙◌, add-one, arith, length-take, length-append, take_at, take-suc, take-suc-set}
 use Rattle.std.proofs.lemmas.List.Edits.{sets, sets-eq}
-use Rattle.std.proofs.Math.Seq.{length-sets}
-use Rattle.kinds.specs.declared.ReadAnswer.{ReadAnswer}
-use Rattle.kinds.specs.declared.Answer.{Answer}
+use Rattle.std.proofs.Math.Seq.{length-sets, length-take-le}
+use Rattle.kinds.specs.ReadAnswer.{ReadAnswer}
+use Rattle.kinds.specs.Answer.{Answer}
 use Rattle.words.specs.Sizes.{base}
 use Rattle.rules.specs.Memory.{Mem}
 use Rattle.rules.specs.Lent.{Words, Arrays}
@@ -26,6 +26,14 @@ use Rattle.lines.specs.Lines.{meaning}
 use Rattle.digits.specs.Numbers.{Laid}
 use Rattle.answers.specs.Answers.{fields, answer, crlf, room, wOk, wNone, wEmpty, wKey, wRefused}
 use Rattle.answers.specs.Laws.{list_fits}
+use Rattle.std.specs.Prelude.{Option as Maybe, Some, None, Result}
+use Rattle.kinds.specs.Versions.{given}
+use Rattle.kinds.specs.declared.Cell.{Cell}
+use Rattle.kinds.specs.declared.Begun.{Begun}
+use Rattle.kinds.specs.declared.Reading.{Reading}
+use Rattle.kinds.specs.declared.Vacuumed.{Vacuumed}
+use Rattle.kinds.specs.declared.refusals.Refusal.{Refusal}
+use Rattle.kinds.specs.Results.{done, begun, wrote, seen, vacuumed, listed}
 use Rattle.perform.specs.declared.Said.{Said}
 use Rattle.perform.specs.Perform.{Rooms, read_text, answer_text, count_of, cells_of, said_text, performed, replayed, memory_after}
 use Rattle.perform.specs.Counted.{vacuum_counted, lookup_all_counted}
@@ -45,6 +53,11 @@ pub record Acted (z : Rooms) (l : Line) (m after : Mem base) (s : Said) (numbers
 -- the same of a call that lists nothing, whatever the buffers of lists are
 abbrev pub Plain : Line → Mem base → Mem base → Said → Type 0
 Plain l m after s = (z : Rooms) (numbers : List ℕ) → Acted z l m after s numbers
+
+-- the line of a write: of a key, or of none
+abbrev pub written : ℕ → ℕ → ℕ → Maybe ℕ → Line
+written s id row (Some k) = Line.Write s id row k
+written s id row None = Line.Delete s id row
 
 -- a call with a list: its answer, the memory after it, and its list at the front of the numbers
 pub record Told {B : Type 0} (o : Outcome base Answer B) (l : List ℕ) (a : Answer) (after : Mem base) (numbers : List ℕ) : Type 0 where
@@ -92,6 +105,13 @@ module _ (m after : Mem base) (a : Answer) where
         let i : length filled ≡ length reports = ap length f ∙ length-sets reports 0 swept.front in
         (omega arith, omega arith)
 
+    -- the first reports, as many as the code counted
+    pub swept_taken : (filled : List (List ℕ)) (k : ℕ) → filled ≡ sets reports 0 swept.front → k ≡ count_of a → length (take k filled) ≡ k
+    swept_taken filled k f q =
+        let g : length swept.front ≤ length reports = (vacuum_counted (length reports) m row request).fits in
+        let i : length filled ≡ length reports = ap length f ∙ length-sets reports 0 swept.front in
+        length-take-le k filled (omega (arith, count_is))
+
     pub swept_told : (filled : List (List ℕ)) (numbers : List ℕ) (k : ℕ) → filled ≡ sets reports 0 swept.front → k ≡ count_of a → take k numbers ≡ cells_of (take k filled)
         → Told swept (cells_of swept.front) a after numbers
     swept_told filled numbers k f q g =
@@ -128,9 +148,6 @@ after_as z m k l n e q = e ∙ ap (λ (l : Line). (performed z l m).after) q
 pub front_room : (l f : List ℕ) (n at size : ℕ) → f ≡ take n l → at + room (2 + length l) ≤ size → at + room (2 + length f) ≤ size
 front_room l f n at size e h = omega (arith, ap length e ∙ length-take n l)
 
-pub listed_said : (s : Said) (a : Answer) (k : ℕ) (f l : List ℕ) → s ≡ Said.Listed a → f ≡ take k l → k ≡ count_of a → answer_text a f ≡ said_text s l
-listed_said s a k f l e g h = ap (answer_text a) (g ∙ ap (λ (n : ℕ). take n l) h) ∙ ap (λ (t : Said). said_text t l) (sym e)
-
 -- ---- how long a line can be
 
 fields_room : (ns : List ℕ) → length (fields ns) ≤ 21 * length ns
@@ -156,11 +173,17 @@ answer_room (Answer.Vacuumed count live) l k h = line_room wOk (count ∷ l) k (
 answer_room (Answer.Listed count) l k h = line_room wOk l k (omega arith) (omega arith)
 answer_room (Answer.Refused n x) l k h = line_room wRefused (n ∷ []) k (omega arith) (omega arith)
 
+listed_room : (a : Answer) (l : List ℕ) → length (answer_text a (take (count_of a) l)) ≤ room (2 + length l)
+listed_room a l = answer_room a (take (count_of a) l) (2 + length l) (omega (arith, length-take (count_of a) l))
+
 said_room : (s : Said) (l : List ℕ) → length (said_text s l) ≤ room (2 + length l)
-said_room (Said.Looked a) l = read_room a (2 + length l) (omega arith)
-said_room (Said.Gave a) l = answer_room a [] (2 + length l) (omega arith)
-said_room (Said.Listed a) l = answer_room a (take (count_of a) l) (2 + length l) (omega (arith, length-take (count_of a) l))
 said_room Said.Other l = line_room wRefused (0 ∷ []) (2 + length l) (omega arith) (omega arith)
+said_room (Said.Done a) l = answer_room (done a) [] (2 + length l) (omega arith)
+said_room (Said.Begun a) l = answer_room (begun a) [] (2 + length l) (omega arith)
+said_room (Said.Wrote a) l = answer_room (wrote a) [] (2 + length l) (omega arith)
+said_room (Said.Looked a) l = read_room (seen a) (2 + length l) (omega arith)
+said_room (Said.Swept a) l = listed_room (vacuumed a) l
+said_room (Said.Listed a) l = listed_room (listed a) l
 
 pub said_fits : {a b : List ℕ} {at next : ℕ} (s : Said) (l : List ℕ) → Laid a b at next (said_text s l) → next ≤ at + room (2 + length l)
 said_fits s l x = omega (arith, x.past, said_room s l)
@@ -169,48 +192,56 @@ said_fits s l x = omega (arith, x.past, said_room s l)
 
 module _ (z : Rooms) (m after : Mem base) (numbers : List ℕ) where
   -- a call that lists nothing
-  module _ (a : Answer) where
-    pub store_acted : (n r : ℕ) → out a [] after ≡ create_out m n r → Acted z (Line.Store n r) m after (Said.Gave a) numbers
-    unfolding performed step
-    store_acted n r e = record { text = ap (λ (o : Outcome base Answer ℕ). answer_text o.answer o.front) e; memory = ap (λ (o : Outcome base Answer ℕ). o.after) e }
+  pub store_acted : (a : Result (Unit {0}) Refusal) (n r : ℕ) → out (done a) [] after ≡ create_out m n r → Acted z (Line.Store n r) m after (Said.Done a) numbers
+  unfolding performed step
+  store_acted a n r e = record { text = ap (λ (o : Outcome base Answer ℕ). answer_text o.answer o.front) e; memory = ap (λ (o : Outcome base Answer ℕ). o.after) e }
 
-    pub begin_acted : out a [] after ≡ begin_out m → Acted z Line.Begin m after (Said.Gave a) numbers
-    unfolding performed step
-    begin_acted e = record { text = ap (λ (o : Outcome base Answer ℕ). answer_text o.answer o.front) e; memory = ap (λ (o : Outcome base Answer ℕ). o.after) e }
+  pub begin_acted : (a : Result Begun Refusal) → out (begun a) [] after ≡ begin_out m → Acted z Line.Begin m after (Said.Begun a) numbers
+  unfolding performed step
+  begin_acted a e = record { text = ap (λ (o : Outcome base Answer ℕ). answer_text o.answer o.front) e; memory = ap (λ (o : Outcome base Answer ℕ). o.after) e }
 
-    pub write_acted : (s id row key : ℕ) → out a [] after ≡ write_out m s id row (some key) → Acted z (Line.Write s id row key) m after (Said.Gave a) numbers
-    unfolding performed step
-    write_acted s id row key e = record { text = ap (λ (o : Outcome base Answer ℕ). answer_text o.answer o.front) e; memory = ap (λ (o : Outcome base Answer ℕ). o.after) e }
+  pub write_acted : (a : Result Cell Refusal) (s id row key : ℕ) → out (wrote a) [] after ≡ write_out m s id row (some key) → Acted z (Line.Write s id row key) m after (Said.Wrote a) numbers
+  unfolding performed step
+  write_acted a s id row key e = record { text = ap (λ (o : Outcome base Answer ℕ). answer_text o.answer o.front) e; memory = ap (λ (o : Outcome base Answer ℕ). o.after) e }
 
-    pub delete_acted : (s id row : ℕ) → out a [] after ≡ write_out m s id row none → Acted z (Line.Delete s id row) m after (Said.Gave a) numbers
-    unfolding performed step
-    delete_acted s id row e = record { text = ap (λ (o : Outcome base Answer ℕ). answer_text o.answer o.front) e; memory = ap (λ (o : Outcome base Answer ℕ). o.after) e }
+  pub delete_acted : (a : Result Cell Refusal) (s id row : ℕ) → out (wrote a) [] after ≡ write_out m s id row none → Acted z (Line.Delete s id row) m after (Said.Wrote a) numbers
+  unfolding performed step
+  delete_acted a s id row e = record { text = ap (λ (o : Outcome base Answer ℕ). answer_text o.answer o.front) e; memory = ap (λ (o : Outcome base Answer ℕ). o.after) e }
 
-    pub commit_acted : (s id : ℕ) → out a [] after ≡ commit_out m s id → Acted z (Line.Commit s id) m after (Said.Gave a) numbers
-    unfolding performed step
-    commit_acted s id e = record { text = ap (λ (o : Outcome base Answer ℕ). answer_text o.answer o.front) e; memory = ap (λ (o : Outcome base Answer ℕ). o.after) e }
+  -- either
+  pub put_acted : (a : Result Cell Refusal) (s id row : ℕ) (v : Maybe ℕ) → out (wrote a) [] after ≡ write_out m s id row (given v) → Acted z (written s id row v) m after (Said.Wrote a) numbers
+  put_acted a s id row (Some k) e = write_acted a s id row k e
+  put_acted a s id row None e = delete_acted a s id row e
 
-    pub abort_acted : (s id : ℕ) → out a [] after ≡ abort_out m s id → Acted z (Line.Abort s id) m after (Said.Gave a) numbers
-    unfolding performed step
-    abort_acted s id e = record { text = ap (λ (o : Outcome base Answer ℕ). answer_text o.answer o.front) e; memory = ap (λ (o : Outcome base Answer ℕ). o.after) e }
+  pub commit_acted : (a : Result (Unit {0}) Refusal) (s id : ℕ) → out (done a) [] after ≡ commit_out m s id → Acted z (Line.Commit s id) m after (Said.Done a) numbers
+  unfolding performed step
+  commit_acted a s id e = record { text = ap (λ (o : Outcome base Answer ℕ). answer_text o.answer o.front) e; memory = ap (λ (o : Outcome base Answer ℕ). o.after) e }
 
-    pub vacuum_acted : (row request : ℕ) → Told (vacuum_out m row request z.reports) (cells_of (vacuum_out m row request z.reports).front) a after numbers
-        → Acted z (Line.Vacuum row request) m after (Said.Listed a) numbers
-    unfolding performed step
-    vacuum_acted row request t = record { text = ap (answer_text a) t.list ∙ ap (λ (b : Answer). answer_text b (cells_of (vacuum_out m row request z.reports).front)) t.answer; memory = t.memory }
+  pub abort_acted : (a : Result (Unit {0}) Refusal) (s id : ℕ) → out (done a) [] after ≡ abort_out m s id → Acted z (Line.Abort s id) m after (Said.Done a) numbers
+  unfolding performed step
+  abort_acted a s id e = record { text = ap (λ (o : Outcome base Answer ℕ). answer_text o.answer o.front) e; memory = ap (λ (o : Outcome base Answer ℕ). o.after) e }
 
-    pub find_acted : (s id key : ℕ) → Told (lookup_all_out m s id key z.results) (lookup_all_out m s id key z.results).front a after numbers
-        → Acted z (Line.Find s id key) m after (Said.Listed a) numbers
-    unfolding performed step
-    find_acted s id key t = record { text = ap (answer_text a) t.list ∙ ap (λ (b : Answer). answer_text b (lookup_all_out m s id key z.results).front) t.answer; memory = t.memory }
+  -- a call with a list
+  pub vacuum_acted : (a : Result Vacuumed Refusal) (row request : ℕ) → Told (vacuum_out m row request z.reports) (cells_of (vacuum_out m row request z.reports).front) (vacuumed a) after numbers
+      → Acted z (Line.Vacuum row request) m after (Said.Swept a) numbers
+  unfolding performed step
+  vacuum_acted a row request t = record { text = ap (answer_text (vacuumed a)) t.list ∙ ap (λ (b : Answer). answer_text b (cells_of (vacuum_out m row request z.reports).front)) t.answer; memory = t.memory }
 
-  pub read_acted : (a : ReadAnswer) (s id row : ℕ) → out a [] after ≡ read_out m s id row → Acted z (Line.Read s id row) m after (Said.Looked a) numbers
+  pub find_acted : (a : Result ℕ Refusal) (s id key : ℕ) → Told (lookup_all_out m s id key z.results) (lookup_all_out m s id key z.results).front (listed a) after numbers
+      → Acted z (Line.Find s id key) m after (Said.Listed a) numbers
+  unfolding performed step
+  find_acted a s id key t = record { text = ap (answer_text (listed a)) t.list ∙ ap (λ (b : Answer). answer_text b (lookup_all_out m s id key z.results).front) t.answer; memory = t.memory }
+
+  pub read_acted : (a : Result Reading Refusal) (s id row : ℕ) → out (seen a) [] after ≡ read_out m s id row → Acted z (Line.Read s id row) m after (Said.Looked a) numbers
   unfolding performed step
   read_acted a s id row e = record { text = ap (λ (o : Outcome base ReadAnswer ℕ). read_text o.answer) e; memory = ap (λ (o : Outcome base ReadAnswer ℕ). o.after) e }
 
   pub other_acted : after ≡ m → Acted z Line.Other m after Said.Other numbers
   unfolding performed
   other_acted e = record { text = refl; memory = e }
+
+pub swept_as : {z : Rooms} {l : Line} {m after : Mem base} {a b : Result Vacuumed Refusal} {numbers : List ℕ} → a ≡ b → Acted z l m after (Said.Swept b) numbers → Acted z l m after (Said.Swept a) numbers
+swept_as {z} {l} {m} {after} {a} {b} {numbers} e x = rw e x
 
 -- ---- records one after the other
 

@@ -1,14 +1,15 @@
 -- What a record does: the call that it means, on the rules' memory, and the answer line.
 use Rattle.std.specs.Prelude.{ℕ, List, [], ◌∷◌, ◌++◌, get_or, take}
 use Rattle.std.proofs.Math.Option.{Option, none, some}
-use Rattle.kinds.specs.declared.ReadAnswer.{ReadAnswer}
-use Rattle.kinds.specs.declared.Answer.{Answer}
+use Rattle.kinds.specs.ReadAnswer.{ReadAnswer}
+use Rattle.kinds.specs.Answer.{Answer}
 use Rattle.words.specs.Sizes.{base}
 use Rattle.rules.specs.Memory.{Mem}
 use Rattle.rules.specs.Run.{Call, create, begin, read, write, commit, abort, vacuum, lookup_all, Reply, looked, gave, swept, Ran, step}
 use Rattle.lines.specs.declared.Line.{Line}
 use Rattle.lines.specs.Lines.{meaning}
 use Rattle.answers.specs.Answers.{answer, wOk, wNone, wEmpty, wKey, wRefused}
+use Rattle.kinds.specs.Results.{done, begun, wrote, seen, vacuumed, listed}
 use Rattle.perform.specs.declared.Said.{Said}
 
 -- entries of the report buffer of a vacuum and of the result buffer of a find
@@ -96,7 +97,10 @@ count_of (Answer.Listed count) = count
 count_of (Answer.Refused n x) = 0
 
 abbrev pub said_text : Said → List ℕ → List ℕ
-said_text (Said.Looked a) numbers = read_text a
-said_text (Said.Gave a) numbers = answer_text a []
-said_text (Said.Listed a) numbers = answer_text a (take (count_of a) numbers)
 said_text Said.Other numbers = answer wRefused (0 ∷ [])
+said_text (Said.Done a) numbers = answer_text (done a) []
+said_text (Said.Begun a) numbers = answer_text (begun a) []
+said_text (Said.Wrote a) numbers = answer_text (wrote a) []
+said_text (Said.Looked a) numbers = read_text (seen a)
+said_text (Said.Swept a) numbers = answer_text (vacuumed a) (take (count_of (vacuumed a)) numbers)
+said_text (Said.Listed a) numbers = answer_text (listed a) (take (count_of (listed a)) numbers)

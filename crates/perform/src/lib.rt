@@ -7,95 +7,59 @@ ghost use Rattle.rules.specs.Lent.{lent, mem_in, mem_out};
 ghost use Rattle.digits.specs.Numbers.{Laid};
 ghost use Rattle.lines.specs.Lines.{meaning};
 ghost use Rattle.answers.specs.Answers.{room};
-ghost use Rattle.perform.specs.Perform.{read_text, answer_text, count_of, cells_of, said_text, performed};
-ghost use Rattle.perform.specs.Laws.{Acted, Plain, rooms, rooms_in};
+ghost use Rattle.perform.specs.Perform.{cells_of, said_text, performed};
+ghost use Rattle.perform.specs.Laws.{Acted, Plain, written, rooms, rooms_in};
 
-use kinds::{Answer, ReadAnswer, Value};
+use kinds::{Begun, Cell, Reading, Refusal, Vacuumed};
 use lines::Line;
 use store::{abort, commit};
 use words::{CELL_WORDS, TxId, WIDTH};
 
-// What a call came to. The rows or the cells that `Listed` counts stand at the front of a buffer.
+// What a call came to. The cells or the rows that the last two count stand at the front of a buffer.
 #[derive(Clone, Copy)]
 pub enum Said {
-    Looked(ReadAnswer),
-    Gave(Answer),
-    Listed(Answer),
     Other,
+    Done(Result<(), Refusal>),
+    Begun(Result<Begun, Refusal>),
+    Wrote(Result<Cell, Refusal>),
+    Looked(Result<Reading, Refusal>),
+    Swept(Result<Vacuumed, Refusal>),
+    Listed(Result<u64, Refusal>),
 }
 
-fn put_read(out: &mut [u8], at: usize, a: ReadAnswer) -> usize
-    requires { at + room 1 ≤ length out.old }
-    ensures { Laid out.old out.new at result (read_text a) }
-{
-    match a {
-        ReadAnswer::None => answers::none(out, at),
-        ReadAnswer::Empty => answers::empty(out, at),
-        ReadAnswer::Key(k) => answers::key(out, at, k),
-        ReadAnswer::Refused { number, value: _ } => answers::refused(out, at, number),
-    }
-}
-
-// An answer, and the numbers of its list where it has one.
-fn put_answer(out: &mut [u8], at: usize, a: Answer, list: &[u64]) -> usize
-    requires { at + room (2 + length list.now) ≤ length out.old }
-    ensures { Laid out.old out.new at result (answer_text a list.now) }
-{
-    match a {
-        Answer::Done => answers::ok(out, at, &list[..0]),
-        Answer::Begun { slot, id } => {
-            let two = [slot, id.0];
-            answers::ok(out, at, &two)
-        }
-        Answer::Wrote(cell) => {
-            let one = [cell.0];
-            answers::ok(out, at, &one)
-        }
-        Answer::Vacuumed { count, live: _ } => answers::counted(out, at, count, list),
-        Answer::Listed(_) => answers::ok(out, at, list),
-        Answer::Refused { number, value: _ } => answers::refused(out, at, number),
-    }
-}
-
-// How many numbers belong to an answer.
-fn count_of(a: Answer) -> u64
-    ensures { result ≡ count_of a }
-{
-    match a {
-        Answer::Done => 0,
-        Answer::Begun { slot: _, id: _ } => 0,
-        Answer::Wrote(_) => 0,
-        Answer::Vacuumed { count, live: _ } => count,
-        Answer::Listed(count) => count,
-        Answer::Refused {
-            number: _,
-            value: _,
-        } => 0,
-    }
-}
-
+// The line of what a call came to; its list stands at the front of `numbers`.
 fn put_said(out: &mut [u8], at: usize, said: Said, numbers: &[u64]) -> usize
     requires { at + room (2 + length numbers.now) ≤ length out.old }
     ensures { Laid out.old out.new at result (said_text said numbers.now) }
 {
     match said {
-        Said::Looked(a) => put_read(out, at, a),
-        Said::Gave(a) => put_answer(out, at, a, &numbers[..0]),
-        Said::Listed(a) => put_answer(out, at, a, store::front(numbers, count_of(a))),
         Said::Other => answers::refused(out, at, 0),
+        Said::Done(Ok(())) => answers::ok(out, at, &[]),
+        Said::Begun(Ok(begun)) => answers::ok(out, at, &[begun.slot, begun.id.0]),
+        Said::Wrote(Ok(cell)) => answers::ok(out, at, &[cell.0]),
+        Said::Looked(Ok(Reading::None)) => answers::none(out, at),
+        Said::Looked(Ok(Reading::Empty)) => answers::empty(out, at),
+        Said::Looked(Ok(Reading::Key(key))) => answers::key(out, at, key),
+        Said::Swept(Ok(gone)) => {
+            answers::counted(out, at, gone.count, store::front(numbers, gone.count))
+        }
+        Said::Listed(Ok(count)) => answers::ok(out, at, store::front(numbers, count)),
+        Said::Done(Err(refusal))
+        | Said::Begun(Err(refusal))
+        | Said::Wrote(Err(refusal))
+        | Said::Looked(Err(refusal))
+        | Said::Swept(Err(refusal))
+        | Said::Listed(Err(refusal)) => answers::refused(out, at, refusal.number()),
     }
 }
 
-// The cells of the first reports.
-fn copy_cells(reports: &[[u64; 3]], numbers: &mut [u64], count: u64)
-    requires { (count ≤ length reports.now) × (count ≤ length numbers.old) }
-    ensures { take count numbers.new ≡ cells_of (take count reports.now) }
+// The cells of the reports, at the front of the numbers.
+fn copy_cells(reports: &[[u64; 3]], numbers: &mut [u64])
+    requires { length reports.now ≤ length numbers.old }
+    ensures { take (length reports.now) numbers.new ≡ cells_of reports.now }
 {
-    let n = count as usize;
-    let mut i = 0;
-    while i < n {
-        numbers[i] = reports[i][0];
-        i += 1;
+    for (i, report) in reports.iter().enumerate() {
+        numbers[i] = report[0];
     }
 }
 
@@ -113,9 +77,11 @@ fn sweep(
     requires { length reports.old ≤ length numbers.old }
     ensures { Acted (rooms_in reports numbers) (Line.Vacuum row request) (lent meta.old rows.now cells.old slots.now) (lent meta.new rows.now cells.new slots.now) result numbers.new }
 {
-    let a = store::vacuum(meta, rows, cells, slots, row, request, reports);
-    copy_cells(reports, numbers, count_of(a));
-    Said::Listed(a)
+    let answer = store::vacuum(meta, rows, cells, slots, row, request, reports);
+    if let Ok(gone) = answer {
+        copy_cells(&reports[..gone.count as usize], numbers);
+    }
+    Said::Swept(answer)
 }
 
 // A read.
@@ -133,7 +99,7 @@ fn look(
     Said::Looked(store::read(meta, rows, cells, slots, slot, TxId(id), row))
 }
 
-// A write of a key.
+// A write of a key, or of none.
 fn put(
     meta: &mut [u64],
     rows: &[u64],
@@ -142,28 +108,11 @@ fn put(
     slot: u64,
     id: u64,
     row: u64,
-    key: u64,
+    value: Option<u64>,
 ) -> Said
-    ensures { Plain (Line.Write slot id row key) (lent meta.old rows.now cells.old slots.old) (lent meta.new rows.now cells.new slots.new) result }
+    ensures { Plain (written slot id row value) (lent meta.old rows.now cells.old slots.old) (lent meta.new rows.now cells.new slots.new) result }
 {
-    let value = Value::Key(key);
-    Said::Gave(store::write(meta, rows, cells, slots, slot, TxId(id), row, value))
-}
-
-// A write of no key.
-fn erase(
-    meta: &mut [u64],
-    rows: &[u64],
-    cells: &mut [[u64; CELL_WORDS]],
-    slots: &mut [[u64; WIDTH]],
-    slot: u64,
-    id: u64,
-    row: u64,
-) -> Said
-    ensures { Plain (Line.Delete slot id row) (lent meta.old rows.now cells.old slots.old) (lent meta.new rows.now cells.new slots.new) result }
-{
-    let value = Value::Nothing;
-    Said::Gave(store::write(meta, rows, cells, slots, slot, TxId(id), row, value))
+    Said::Wrote(store::write(meta, rows, cells, slots, slot, TxId(id), row, value))
 }
 
 // A lookup whose rows are listed.
@@ -196,13 +145,15 @@ fn act(
     ensures { Acted (rooms_in reports numbers) line (mem_in meta rows cells slots) (mem_out meta rows cells slots) result numbers.new }
 {
     match line {
-        Line::Store { n, r } => Said::Gave(store::create(meta, rows, cells, slots, n, r)),
-        Line::Begin => Said::Gave(store::begin(meta, rows, cells, slots)),
+        Line::Store { n, r } => Said::Done(store::create(meta, rows, cells, slots, n, r)),
+        Line::Begin => Said::Begun(store::begin(meta, rows, cells, slots)),
         Line::Read { slot, id, row } => look(meta, rows, cells, slots, slot, id, row),
-        Line::Write { slot, id, row, key } => put(meta, rows, cells, slots, slot, id, row, key),
-        Line::Delete { slot, id, row } => erase(meta, rows, cells, slots, slot, id, row),
-        Line::Commit { slot, id } => Said::Gave(commit(meta, rows, cells, slots, slot, TxId(id))),
-        Line::Abort { slot, id } => Said::Gave(abort(meta, rows, cells, slots, slot, TxId(id))),
+        Line::Write { slot, id, row, key } => {
+            put(meta, rows, cells, slots, slot, id, row, Some(key))
+        }
+        Line::Delete { slot, id, row } => put(meta, rows, cells, slots, slot, id, row, None),
+        Line::Commit { slot, id } => Said::Done(commit(meta, rows, cells, slots, slot, TxId(id))),
+        Line::Abort { slot, id } => Said::Done(abort(meta, rows, cells, slots, slot, TxId(id))),
         Line::Vacuum { row, request } => sweep(
             meta, rows, cells, slots, row, request, reports, numbers,
         ),

@@ -1,6 +1,6 @@
 -- A record kept byte by byte.
 use Rattle.std.specs.Prelude.{ℕ, suc, ◌+◌, ◌-◌, ◌<◌, ◌≤◌, min, Bool, true, false, ◌&&◌, cond, List, [], ◌∷◌, ◌++◌, ◌≡◌, refl, eqb, ltb, length, get_or, take, drop}
-use Rattle.std.proofs.Common.{append-nil, append_assoc, sym, ap, ◌∙◌, add-one, arith, length-append, length-take, length-drop, take-append-drop, take-suc, take_all, take-take, drop-cons, get_or-drop, drop-drop, take-add, ltb-true, ltb-false}
+use Rattle.std.proofs.Common.{append-nil, append_assoc, sym, ap, ◌∙◌, add-one, arith, length-append, length-take, length-drop, take-append-drop, take-suc, take_all, take-take, drop-cons, drop-drop, take-add, ltb-true, ltb-false}
 use Rattle.std.proofs.Math.Option.{none, some}
 use Rattle.std.proofs.lemmas.List.{take-append-le}
 use Rattle.pieces.specs.declared.Held.{Held}
@@ -33,6 +33,15 @@ sane_nothing room h = record { some_room = h; fits = omega arith; some_byte = λ
 pub holds_nothing : (buffer : List ℕ) → Holds [] buffer (record { count = 0; cr = false })
 unfolding first_end ends_cr
 holds_nothing buffer = record { no_end = refl; counted = omega arith; kept = refl; last = refl }
+
+-- a byte more is counted
+pub sane_next : (a c : List ℕ) (h : Held) (n b : ℕ) (t : Bool) → Sane (length a) h → Put a c h.count n b → Sane (length c) (record { count = n; cr = t })
+sane_next a c h n b t x w =
+    record {
+      some_room = omega (arith, x.some_room, w.same_length);
+      fits = omega (arith, w.counted x.fits, w.same_length);
+      some_byte = λ e. omega (arith, x.some_room, w.counted x.fits);
+    }
 
 -- a byte that ends no record is kept
 pub holds_more : (p a c : List ℕ) (h : Held) (n b : ℕ) → Holds p a h → Put a c h.count n b → (h.cr && eqb b 10) ≡ false
@@ -97,13 +106,6 @@ between_joins s a b c h g =
     ∙ sym (take-add (b - a) (c - b) (drop a s)) ∙ ap (λ (k : ℕ). take k (drop a s)) f
 
 module _ (s : List ℕ) (from i : ℕ) (low : from ≤ i) where
-  between_more : i < length s → between s from (i + 1) ≡ between s from i ++ (get_or s i 0 ∷ [])
-  between_more h =
-      let e : i + 1 - from ≡ suc (i - from) = omega arith in
-      let g : i - from < length (drop from s) = rw (length-drop from s) (omega arith) in
-      let f : from + (i - from) ≡ i = omega arith in
-      rw (e, take-suc (drop from s) (i - from) 0 g, get_or-drop from s (i - from) 0, f)
-
   pub between_rest : between s from i ++ drop i s ≡ drop from s
   between_rest =
       let f : from + (i - from) ≡ i = omega arith in
@@ -112,42 +114,40 @@ module _ (s : List ℕ) (from i : ℕ) (low : from ≤ i) where
   pub between_all : length s ≤ i → between s from i ≡ drop from s
   between_all h = take_all (i - from) (drop from s) (rw (length-drop from s) (omega arith))
 
-  length_between : i ≤ length s → length (between s from i) ≡ i - from
-  length_between h = rw (length-take (i - from) (drop from s), length-drop from s) (omega arith)
+-- what has come, with i bytes of the piece; and one byte more
+module _ (s : List ℕ) (i : ℕ) (p f : List ℕ) (h : Held) (x : Holds (p ++ take i s) f h) (more : i < length s) where
+  pub holds_next : (g : List ℕ) (n : ℕ) → Put f g h.count n (get_or s i 0) → (h.cr && eqb (get_or s i 0) 10) ≡ false
+      → Holds (p ++ take (i + 1) s) g (record { count = n; cr = eqb (get_or s i 0) 13 })
+  holds_next g n w e =
+      let q : (p ++ take i s) ++ (get_or s i 0 ∷ []) ≡ p ++ take (i + 1) s =
+      append_assoc p (take i s) (get_or s i 0 ∷ []) ∙ ap (λ (l : List ℕ). p ++ l) (sym (rw (add-one i, take-suc s i 0 more))) in
+      rw q at (holds_more (p ++ take i s) f g h n (get_or s i 0) x w e)
 
-  -- what has come, one byte more of the piece
-  module _ (p f : List ℕ) (h : Held) (x : Holds (p ++ between s from i) f h) (more : i < length s) where
-    pub holds_next : (g : List ℕ) (n : ℕ) → Put f g h.count n (get_or s i 0) → (h.cr && eqb (get_or s i 0) 10) ≡ false
-        → Holds (p ++ between s from (i + 1)) g (record { count = n; cr = eqb (get_or s i 0) 13 })
-    holds_next g n w e =
-        let q : (p ++ between s from i) ++ (get_or s i 0 ∷ []) ≡ p ++ between s from (i + 1) =
-        append_assoc p (between s from i) (get_or s i 0 ∷ []) ∙ ap (λ (l : List ℕ). p ++ l) (sym (between_more more)) in
-        rw q at (holds_more (p ++ between s from i) f g h n (get_or s i 0) x w e)
+  pub ended : (from : ℕ) → (h.cr && eqb (get_or s i 0) 10) ≡ true → Ended p s from f (h.count - 1) (from + i + 1)
+  ended from e =
+      let l : ends_cr (p ++ take i s) ≡ true = sym x.last ∙ is_cr h.cr (eqb (get_or s i 0) 10) e in
+      let z : 0 < length (p ++ take i s) = ends_some (p ++ take i s) l in
+      let u : length (p ++ take i s) ≡ length p + i = rw (length-append p (take i s), length-take i s) (omega arith) in
+      record {
+        k = length (p ++ take i s) - 1;
+        end = ap first_end whole ∙ first_end_stays ((p ++ take i s) ++ (get_or s i 0 ∷ [])) (drop (i + 1) s) (length (p ++ take i s) - 1)
+            (snoc (p ++ take i s) (get_or s i 0) x.no_end ∙ ap (λ (t : Bool). cond t (some (length (p ++ take i s) - 1)) none) (ap (λ (t : Bool). t && eqb (get_or s i 0) 10) (sym x.last) ∙ e));
+        past = omega arith;
+        given = given_front (p ++ take i s) (drop i s) f h.count z x.counted x.kept
+            ∙ ap (λ (l : List ℕ). take (length f - 1) (take (length (p ++ take i s) - 1) l)) joins;
+      }
+    where
+      joins : (p ++ take i s) ++ drop i s ≡ p ++ s
+      joins = append_assoc p (take i s) (drop i s) ∙ ap (λ (l : List ℕ). p ++ l) (take-append-drop i s)
 
-    pub ended : (h.cr && eqb (get_or s i 0) 10) ≡ true → Ended p (drop from s) from f (h.count - 1) (i + 1)
-    ended e =
-        let l : ends_cr (p ++ between s from i) ≡ true = sym x.last ∙ is_cr h.cr (eqb (get_or s i 0) 10) e in
-        let z : 0 < length (p ++ between s from i) = ends_some (p ++ between s from i) l in
-        let u : length (p ++ between s from i) ≡ length p + (i - from) = rw (length-append p (between s from i), length_between (omega arith)) in
-        record {
-          k = length (p ++ between s from i) - 1;
-          end = ap first_end whole ∙ first_end_stays ((p ++ between s from i) ++ (get_or s i 0 ∷ [])) (drop (i + 1) s) (length (p ++ between s from i) - 1)
-              (snoc (p ++ between s from i) (get_or s i 0) x.no_end ∙ ap (λ (t : Bool). cond t (some (length (p ++ between s from i) - 1)) none) (ap (λ (t : Bool). t && eqb (get_or s i 0) 10) (sym x.last) ∙ e));
-          past = omega arith;
-          given = given_front (p ++ between s from i) (drop i s) f h.count z x.counted x.kept
-              ∙ ap (λ (l : List ℕ). take (length f - 1) (take (length (p ++ between s from i) - 1) l)) joins;
-        }
-      where
-        joins : (p ++ between s from i) ++ drop i s ≡ p ++ drop from s
-        joins = append_assoc p (between s from i) (drop i s) ∙ ap (λ (l : List ℕ). p ++ l) between_rest
+      whole : p ++ s ≡ ((p ++ take i s) ++ (get_or s i 0 ∷ [])) ++ drop (i + 1) s
+      whole =
+          sym joins
+          ∙ ap (λ (l : List ℕ). (p ++ take i s) ++ l) (drop-cons s i 0 more ∙ ap (λ (k : ℕ). get_or s i 0 ∷ drop k s) (sym (add-one i)))
+          ∙ sym (append_assoc (p ++ take i s) (get_or s i 0 ∷ []) (drop (i + 1) s))
 
-        whole : p ++ drop from s ≡ ((p ++ between s from i) ++ (get_or s i 0 ∷ [])) ++ drop (i + 1) s
-        whole =
-            sym joins
-            ∙ ap (λ (l : List ℕ). (p ++ between s from i) ++ l) (drop-cons s i 0 more ∙ ap (λ (k : ℕ). get_or s i 0 ∷ drop k s) (sym (add-one i)))
-            ∙ sym (append_assoc (p ++ between s from i) (get_or s i 0 ∷ []) (drop (i + 1) s))
+pub holds_start : (p f : List ℕ) (h : Held) → Holds p f h → Holds (p ++ []) f h
+holds_start p f h x = rw (append-nil p) x
 
-pub holds_start : (s : List ℕ) (from : ℕ) (p f : List ℕ) (h : Held) → Holds p f h → Holds (p ++ between s from from) f h
-holds_start s from p f h x =
-    let e : p ≡ p ++ between s from from = sym (ap (λ (l : List ℕ). p ++ l) (between_none s from) ∙ append-nil p) in
-    rw e at x
+pub holds_end : (s : List ℕ) (i : ℕ) (p f : List ℕ) (h : Held) → length s ≤ i → Holds (p ++ take i s) f h → Holds (p ++ s) f h
+holds_end s i p f h l x = rw (take_all i s l) at x

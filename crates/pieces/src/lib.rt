@@ -5,10 +5,6 @@
 ghost use Rattle.std.specs.Prelude.{◌≡◌, ◌&&◌, List, [], ℕ, ◌<◌, ◌≤◌, eqb, length, drop};
 ghost use Rattle.pieces.specs.Held.{Sane, Holds, Handed, Put, Within};
 
-const CR: u8 = 13;
-
-const LF: u8 = 10;
-
 // What is kept of a record whose end has not come: how many of its bytes, and whether the last that came is a CR.
 #[derive(Clone, Copy)]
 pub struct Held {
@@ -26,10 +22,7 @@ pub enum Next {
 fn is_end(cr: bool, b: u8) -> bool
     ensures { result ≡ (cr && eqb b 10) }
 {
-    if !cr {
-        return false;
-    }
-    b == LF
+    cr && b == b'\n'
 }
 
 // One byte more, where it has room.
@@ -43,7 +36,7 @@ fn put(front: &mut [u8], count: usize, b: u8) -> usize
     count + 1
 }
 
-// Nothing has come yet.
+// Nothing has come yet. Not a derived `Default`, which would not say what such a `Held` holds.
 pub fn nothing() -> Held
     ensures { ((room : ℕ) → 0 < room → Sane room result) × ((front : List ℕ) → Holds [] front result) }
 {
@@ -63,18 +56,15 @@ pub fn next_record(front: &mut [u8], held: Held, piece: &[u8], from: usize) -> N
 {
     let mut count = held.count;
     let mut cr = held.cr;
-    let mut i = from;
-    while i < piece.len() {
-        let b = piece[i];
-        i += 1;
-        if is_end(cr, b) {
+    for (i, b) in piece[from..].iter().enumerate() {
+        if is_end(cr, *b) {
             return Next::Record {
                 count: count - 1,
-                at: i,
+                at: from + i + 1,
             };
         }
-        count = put(front, count, b);
-        cr = b == CR;
+        count = put(front, count, *b);
+        cr = *b == b'\r';
     }
     Next::More(Held { count, cr })
 }

@@ -46,15 +46,14 @@ module _ (z : Rooms) (p piece : List ℕ) where
       subst (λ (s : List ℕ). Wrote z p s m was was) q (wrote_none z p front h m was x)
 
   -- a batch that was put at the output's front, and the front written
-  pub wrote_then : (y : Rooms) → y ≡ z → (here x : Place) (f g : List ℕ) (m k after : Mem base) (b c : List ℕ) (was mid now : Option (List ℕ)) → here.from ≤ x.from → here.at ≡ 0 → x.at ≤ length c
+  pub wrote_then : (here x : Place) (f g : List ℕ) (m k after : Mem base) (b c : List ℕ) (was mid now : Option (List ℕ)) → here.from ≤ x.from → here.at ≡ 0 → x.at ≤ length c
       → Taken z p (between piece 0 here.from) f here.held m k → Wrote z p (between piece 0 here.from) m was mid
-      → Batched y (parts (p ++ between piece 0 here.from)).rest (between piece here.from x.from) g x.held k after b c here.at x.at
+      → Batched z (parts (p ++ between piece 0 here.from)).rest (between piece here.from x.from) g x.held k after b c here.at x.at
       → Appends mid now (take x.at c) → Wrote z p (between piece 0 x.from) m was now
-  wrote_then y same here x f g m k after b c was mid now l e n t v w o =
+  wrote_then here x f g m k after b c was mid now l e n t v w o =
       let rest = (parts (p ++ between piece 0 here.from)).rest in
-      let lines = subst (λ (i : ℕ). Laid b c i x.at (replayed y (parts (rest ++ between piece here.from x.from)).closed k)) e w.lines in
-      let q : take x.at c ≡ replayed z (parts (rest ++ between piece here.from x.from)).closed k =
-      front_of_lem lines n ∙ ap (λ (r : Rooms). replayed r (parts (rest ++ between piece here.from x.from)).closed k) same in
+      let lines = subst (λ (i : ℕ). Laid b c i x.at (replayed z (parts (rest ++ between piece here.from x.from)).closed k)) e w.lines in
+      let q : take x.at c ≡ replayed z (parts (rest ++ between piece here.from x.from)).closed k = front_of_lem lines n in
       subst (λ (s : List ℕ). Wrote z p s m was now) (between_joins piece 0 here.from x.from (omega arith) l) (wrote_both z p _ _ f here.held m k was mid now t v (subst (λ (s : List ℕ). Appends mid now s) q o))
 
   pub all_wrote : (from : ℕ) (m : Mem base) (was now : Option (List ℕ)) → length piece ≤ from → Wrote z p (between piece 0 from) m was now → Wrote z p piece m was now
@@ -78,18 +77,18 @@ module _ (z : Rooms) (m : Mem base) (left was : Option (List ℕ)) where
       record { s = []; read = Consumes-nil left; counted = omega arith; taken = taken_none z [] front h m x; written = wrote_none z [] front h m was x }
 
   -- another piece
-  pub hearing_then : (y : Rooms) → y ≡ z → (a b : ℕ) → a ≤ b + 1 → (f g : List ℕ) (h i : Held) (k after : Mem base) (mid rest old now : Option (List ℕ)) (v : List ℕ)
+  pub hearing_then : (a b : ℕ) → a ≤ b + 1 → (f g : List ℕ) (h i : Held) (k after : Mem base) (mid rest old now : Option (List ℕ)) (v : List ℕ)
       → Hearing z a f h m k left mid was old → Consumes mid rest v → 0 < length v
-      → ((p : List ℕ) → Holds p f h → Taken y p v g i k after) → ((p : List ℕ) → Holds p f h → Wrote y p v k old now)
+      → ((p : List ℕ) → Holds p f h → Taken z p v g i k after) → ((p : List ℕ) → Holds p f h → Wrote z p v k old now)
       → Hearing z b g i m after left rest was now
-  hearing_then y same a b l f g h i k after mid rest old now v x r n t w =
+  hearing_then a b l f g h i k after mid rest old now v x r n t w =
       let held = x.taken.holds in
       record {
         s = x.s ++ v;
         read = Consumes-trans left mid rest _ _ x.read r;
         counted = omega (arith, x.counted, length-append x.s v);
-        taken = taken_then z x.taken (subst (λ (j : Rooms). Taken j (parts x.s).rest v g i k after) same (t _ held));
-        written = wrote_both z [] x.s v f h m k was old now x.taken x.written (subst (λ (j : Rooms). Wrote j (parts x.s).rest v k old now) same (w _ held));
+        taken = taken_then z x.taken (t _ held);
+        written = wrote_both z [] x.s v f h m k was old now x.taken x.written (w _ held);
       }
 
   module _ (front : List ℕ) (h : Held) (after : Mem base) (rest now : Option (List ℕ)) where
@@ -102,11 +101,11 @@ module _ (z : Rooms) (m : Mem base) (left was : Option (List ℕ)) where
     heard_long turns e x = record { s = x.s; read = x.read; ended = λ l. absurd (omega (arith, e, l, x.counted)); taken = x.taken; written = x.written }
 
   -- and the rest
-  pub heard_rest : (y : Rooms) → y ≡ z → (f : List ℕ) (h : Held) (k after : Mem base) (b c : List ℕ) (at : ℕ) (rest mid now : Option (List ℕ))
-      → Heard z f h m k left rest was mid → ((p : List ℕ) → Holds p f h → Answered y (records p) k after b c 0 at) → at ≤ length c → Appends mid now (take at c)
+  pub heard_rest : (f : List ℕ) (h : Held) (k after : Mem base) (b c : List ℕ) (at : ℕ) (rest mid now : Option (List ℕ))
+      → Heard z f h m k left rest was mid → ((p : List ℕ) → Holds p f h → Answered z (records p) k after b c 0 at) → at ≤ length c → Appends mid now (take at c)
       → Replayed z m after left rest was now
-  heard_rest y same f h k after b c at rest mid now x r n o =
-      let a = subst (λ (j : Rooms). Answered j (records (parts x.s).rest) k after b c 0 at) same (r _ x.taken.holds) in
+  heard_rest f h k after b c at rest mid now x r n o =
+      let a = r _ x.taken.holds in
       let e : (parts x.s).closed ++ records (parts x.s).rest ≡ records x.s = closed_and_rest x.s in
       let q : replayed z (parts x.s).closed m ++ take at c ≡ replayed z (records x.s) m =
       ap (λ (l : List ℕ). replayed z (parts x.s).closed m ++ l) (front_of_lem a.lines n ∙ ap (replayed z (records (parts x.s).rest)) x.taken.memory)
@@ -128,6 +127,12 @@ replayed_whole z m after (Some t) (Some r) was now x = λ l.
     let n : length x.s < last_id = omega (arith, l, ap length x.read, length-append x.s r) in
     let e : x.s ≡ t = sym (x.read ∙ ap (λ (q : List ℕ). x.s ++ q) (x.ended n) ∙ append-nil x.s) in
     record { written = subst (λ (q : List ℕ). Appends was now (replayed z (records q) m)) e x.written; memory = subst (λ (q : List ℕ). after ≡ memory_after z (records q) m) e x.memory }
+
+-- where nobody sees the memory afterwards, what was written
+pub whole_written : (z : Rooms) (m after : Mem base) (left was now : Option (List ℕ)) → IfSome left (λ t. length t < last_id → Whole z t m after was now)
+    → IfSome left (λ t. length t < last_id → Appends was now (replayed z (records t) m))
+whole_written z m after None was now x = tt
+whole_written z m after (Some t) was now x = λ l. (x l).written
 
 -- ---- where a read or a write fails
 
@@ -151,10 +156,10 @@ module _ (z : Rooms) (m : Mem base) (left was : Option (List ℕ)) where
       }
 
   -- or a write in a piece
-  pub failed_write : (y : Rooms) → y ≡ z → (turns : ℕ) (front : List ℕ) (h : Held) (k after : Mem base) (mid rest now : Option (List ℕ)) (v : List ℕ)
-      → Hearing z turns front h m k left mid was now → Consumes mid rest v → ((p : List ℕ) → Holds p front h → Stopped y p v k after) → Failed z m after left rest
-  failed_write y same turns front h k after mid rest now v x r t =
-      let w = subst (λ (j : Rooms). Stopped j (parts x.s).rest v k after) same (t _ x.taken.holds) in
+  pub failed_write : (turns : ℕ) (front : List ℕ) (h : Held) (k after : Mem base) (mid rest now : Option (List ℕ)) (v : List ℕ)
+      → Hearing z turns front h m k left mid was now → Consumes mid rest v → ((p : List ℕ) → Holds p front h → Stopped z p v k after) → Failed z m after left rest
+  failed_write turns front h k after mid rest now v x r t =
+      let w = t _ x.taken.holds in
       let e : parts (x.s ++ w.s) ≡ behind (parts x.s).closed (parts ((parts x.s).rest ++ w.s)) = parts_go_on w.s x.s in
       record {
         text = x.s ++ v;
@@ -169,10 +174,10 @@ module _ (z : Rooms) (m : Mem base) (left was : Option (List ℕ)) where
       }
 
   -- or the last write
-  pub unanswered : (y : Rooms) → y ≡ z → (f : List ℕ) (h : Held) (k after : Mem base) (b c : List ℕ) (at : ℕ) (rest mid : Option (List ℕ))
-      → Heard z f h m k left rest was mid → ((p : List ℕ) → Holds p f h → Answered y (records p) k after b c 0 at) → Unanswered z m after left rest
-  unanswered y same f h k after b c at rest mid x r =
-      let a = subst (λ (j : Rooms). Answered j (records (parts x.s).rest) k after b c 0 at) same (r _ x.taken.holds) in
+  pub unanswered : (f : List ℕ) (h : Held) (k after : Mem base) (b c : List ℕ) (at : ℕ) (rest mid : Option (List ℕ))
+      → Heard z f h m k left rest was mid → ((p : List ℕ) → Holds p f h → Answered z (records p) k after b c 0 at) → Unanswered z m after left rest
+  unanswered f h k after b c at rest mid x r =
+      let a = r _ x.taken.holds in
       record {
         s = x.s;
         read = x.read;

@@ -99,7 +99,7 @@ module _ (z : Rooms) where
           lines = rw (e, x.output, x.place) (laid_none before at);
         }
 
--- ---- as the code goes: y is what the lent buffers are now
+-- ---- as the code goes
 
 pub batched_start : (z : Rooms) (p piece : List ℕ) (from : ℕ) (front : List ℕ) (h : Held) (m : Mem base) (out : List ℕ) (at : ℕ) → Holds p front h
     → Batched z p (between piece from from) front h m m out out at at
@@ -107,18 +107,18 @@ batched_start z p piece from front h m out at x =
     let e : [] ≡ between piece from from = sym (between_none piece from) in
     rw e at (batched_none z p front h m out at x)
 
-module _ (z y : Rooms) (same : y ≡ z) (p piece : List ℕ) (start here x : Place) (f g : List ℕ) (m k after : Mem base) (a b c : List ℕ) where
+module _ (z : Rooms) (p piece : List ℕ) (start here x : Place) (f g : List ℕ) (m k after : Mem base) (a b c : List ℕ) where
   pub answered_then : (t : Turn) → t ≡ Turn.Answered x → start.from ≤ here.from → here.from < x.from
       → Batched z p (between piece start.from here.from) f here.held m k a b start.at here.at
-      → Turned y (parts (p ++ between piece start.from here.from)).rest (drop here.from piece) here g k after b c t
+      → Turned z (parts (p ++ between piece start.from here.from)).rest (drop here.from piece) here g k after b c t
       → Batched z p (between piece start.from x.from) g x.held m after a c start.at x.at
   answered_then t e l n v w =
       let q = between_joins piece start.from here.from x.from l (omega arith) in
-      rw q at (batched_then z v (ends_batched z _ _ _ _ _ _ _ _ _ _ _ _ (rw (e, same) at w)))
+      rw q at (batched_then z v (ends_batched z _ _ _ _ _ _ _ _ _ _ _ _ (rw e at w)))
 
   pub more_then : (t : Turn) → t ≡ Turn.More x → start.from ≤ here.from → here.from ≤ length piece → x.from ≡ length piece
       → Batched z p (between piece start.from here.from) f here.held m k a b start.at here.at
-      → Turned y (parts (p ++ between piece start.from here.from)).rest (drop here.from piece) here g k after b c t
+      → Turned z (parts (p ++ between piece start.from here.from)).rest (drop here.from piece) here g k after b c t
       → Batched z p (between piece start.from x.from) g x.held m after a c start.at x.at
   more_then t e l n d v w =
       let q = between_joins piece start.from here.from x.from l (omega arith) in
@@ -133,12 +133,12 @@ module _ (z : Rooms) (p piece : List ℕ) where
       let q : [] ≡ between piece 0 from = sym (ap (between piece 0) e ∙ between_none piece 0) in
       rw q at (taken_none z p front h m x)
 
-  pub batch_then : (y : Rooms) → y ≡ z → (here x : Place) (f g : List ℕ) (m k after : Mem base) (b c : List ℕ) → here.from ≤ x.from → Taken z p (between piece 0 here.from) f here.held m k
-      → Batched y (parts (p ++ between piece 0 here.from)).rest (between piece here.from x.from) g x.held k after b c here.at x.at
+  pub batch_then : (here x : Place) (f g : List ℕ) (m k after : Mem base) (b c : List ℕ) → here.from ≤ x.from → Taken z p (between piece 0 here.from) f here.held m k
+      → Batched z (parts (p ++ between piece 0 here.from)).rest (between piece here.from x.from) g x.held k after b c here.at x.at
       → Taken z p (between piece 0 x.from) g x.held m after
-  batch_then y same here x f g m k after b c l v w =
+  batch_then here x f g m k after b c l v w =
       let q = between_joins piece 0 here.from x.from (omega arith) l in
-      rw q at (taken_then z v (rw same at w.taken))
+      rw q at (taken_then z v w.taken)
 
   pub all_taken : (from : ℕ) (front : List ℕ) (h : Held) (m after : Mem base) → length piece ≤ from → Taken z p (between piece 0 from) front h m after → Taken z p piece front h m after
   all_taken from front h m after l v = rw (between_all piece 0 from (omega arith) l) at v

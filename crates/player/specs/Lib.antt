@@ -1,4 +1,5 @@
 pub mod Sizes
+pub mod Zeroed
 pub mod Turns
 pub mod Batches
 pub mod Runs

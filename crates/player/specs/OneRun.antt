@@ -1,10 +1,10 @@
 -- A run by computation, so that `batches_answer_the_whole_text` speaks of something; and no output serves every text.
 use Rattle.std.specs.Prelude.{ℕ, ◌<◌, Bool, true, false, List, [], ◌∷◌, ◌++◌, ◌≡◌, refl, length, take, replicate}
 use Rattle.std.proofs.Common.{sym, ap, ◌∙◌, arith, take_all}
-use Rattle.words.specs.Sizes.{base, meta_words}
+use Rattle.words.specs.Sizes.{base}
 use Rattle.words.specs.Lists.{has, keep, first, least, greatest}
 use Rattle.words.specs.Slots.{opened}
-use Rattle.rules.specs.Memory.{Mem, mem}
+use Rattle.rules.specs.Memory.{Mem}
 use Rattle.rules.specs.Snapshot.{occupied, vacant}
 use Rattle.rules.specs.Outcome.{guard, fits, store_tests}
 use Rattle.rules.specs.Create.{fresh_cells, created, create_out}
@@ -20,6 +20,7 @@ use Rattle.pieces.specs.Texts.{records}
 use Rattle.pieces.specs.Parts.{parts}
 use Rattle.perform.specs.Perform.{Rooms, performed, replayed, memory_after}
 use Rattle.perform.specs.Laws.{rooms}
+use Rattle.player.specs.Zeroed.{zeroed}
 use Rattle.player.specs.Runs.{a_part, no_more, Cut, a_piece, no_piece, BatchPromise, RestPromise, Run, a_batch, the_rest, batches_answer_the_whole_text}
 
 -- where the buffer is longer than what is held, that is what has come
@@ -42,7 +43,7 @@ abbrev begun_line : List ℕ
 begun_line = 111 ∷ 107 ∷ 44 ∷ 48 ∷ 44 ∷ 49 ∷ 13 ∷ 10 ∷ []
 
 abbrev zero_mem : Mem base
-zero_mem = mem (replicate meta_words 0) (0 ∷ []) (replicate 8 0 ∷ []) (replicate base.slots (replicate base.width 0))
+zero_mem = zeroed 1 1
 
 -- a report and a number may be listed
 abbrev one : Rooms

@@ -1,11 +1,16 @@
 -- Sizes of the replay program, named once.
 use Rattle.std.specs.Prelude.{ℕ, suc, ◌+◌, ◌<◌, ◌≤◌}
+use Rattle.std.proofs.Common.{arith}
 use Rattle.lines.specs.Longest.{longest}
 use Rattle.answers.specs.Answers.{room}
+use Rattle.player.specs.declared.TheConstants.{RECORD, CELLS, LARGE}
 
 -- cells of the lent store: as many reports has a vacuum at most, and as many numbers has an answer after its first two
 abbrev pub lent_cells : ℕ
 lent_cells = 512
+
+abbrev pub lent_rows : ℕ
+lent_rows = 64
 
 -- bytes that the longest answer may take
 abbrev pub longest_answer : ℕ
@@ -21,3 +26,7 @@ pub record Lent (front reports numbers out : ℕ) : Type 0 where
   pub all_listed : reports ≤ numbers
   pub few : numbers ≤ lent_cells
   pub room_for_one : longest_answer ≤ out
+
+-- and those of a run are
+pub desk_is_lent : Lent RECORD CELLS CELLS LARGE
+desk_is_lent = record { record_kept = omega arith; all_listed = omega arith; few = omega arith; room_for_one = omega arith }

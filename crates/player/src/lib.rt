@@ -2,14 +2,21 @@
 // written in large pieces. What is answered to a piece is written before the next is read, so that a caller behind a pipe does not wait.
 #![tactic(auto)]
 
-ghost use Rattle.std.specs.Prelude.{◌≡◌, List, ℕ, ◌+◌, ◌≤◌, length, drop, ◌<◌, IfOk, IfSome, OnOk, OnErr};
-ghost use Rattle.words.specs.Sizes.{last_id};
+ghost use Rattle.std.specs.Prelude.{◌≡◌, List, ℕ, ◌+◌, ◌≤◌, length, take, drop, ◌<◌, IfOk, IfSome, OnOk, OnErr};
+ghost use Rattle.std.specs.Io.KnownBytes.{Appends};
+ghost use Rattle.words.specs.Sizes.{base, last_id};
+ghost use Rattle.rules.specs.Memory.{Mem};
 ghost use Rattle.rules.specs.Lent.{mem_in, mem_out};
+ghost use Rattle.digits.specs.Numbers.{Laid};
+ghost use Rattle.lines.specs.Lines.{meaning};
 ghost use Rattle.pieces.specs.Held.{Sane, Holds};
 ghost use Rattle.pieces.specs.Laws.{between};
 ghost use Rattle.pieces.specs.Texts.{records};
-ghost use Rattle.perform.specs.Laws.{rooms, rooms_in};
-ghost use Rattle.player.specs.Sizes.{Lent, lent_cells, longest_answer};
+ghost use Rattle.perform.specs.Perform.{performed, replayed};
+ghost use Rattle.perform.specs.Laws.{rooms};
+ghost use Rattle.player.specs.declared.TheConstants.{LARGE};
+ghost use Rattle.player.specs.Sizes.{lent_cells, lent_rows, longest_answer};
+ghost use Rattle.player.specs.Zeroed.{zeroed};
 ghost use Rattle.player.specs.Turns.{Ready, Answered, Turned, Stands, Placed};
 ghost use Rattle.player.specs.Batches.{Taken, Batched, Moved};
 ghost use Rattle.player.specs.Written.{Wrote, Heard, Replayed, Whole, Stopped, Failed, Broken};
@@ -17,7 +24,7 @@ ghost use Rattle.player.specs.Written.{Wrote, Heard, Replayed, Whole, Stopped, F
 use pieces::{Held, Next};
 use std::io;
 use std::io::{Read, Write};
-use words::{CELL_WORDS, LAST_ID, WIDTH};
+use words::{CELL_WORDS, LAST_ID, META_WORDS, SLOTS, WIDTH};
 
 // Cells and rows that a replay program lends.
 pub const CELLS: usize = 512;
@@ -48,34 +55,68 @@ pub enum Turn {
     More(Place),
 }
 
+// What a run works with beside the store: the front of a record, the reports of a vacuum, the numbers of an answer, the output.
+#[derive(Drop)]
+struct Desk {
+    front: [u8; RECORD],
+    reports: [[u64; 3]; CELLS],
+    numbers: [u64; CELLS],
+    out: [u8; LARGE],
+    // what the type says, told to those who changed the output
+    ghost kept: { length out ≡ LARGE },
+}
+
+impl Desk {
+    // The record at the front, performed, and its answer put into the output from a place on. Answers the place after it.
+    fn answer(
+        &mut self,
+        count: usize,
+        at: usize,
+        meta: &mut [u64],
+        rows: &mut [u64],
+        cells: &mut [[u64; CELL_WORDS]],
+        slots: &mut [[u64; WIDTH]],
+    ) -> usize
+        requires { (count ≤ RECORD) × (at + longest_answer ≤ LARGE) }
+        ensures upper_bound { result ≤ LARGE }
+        ensures front_kept { self.new.front ≡ self.old.front }
+        ensures laid { Laid self.old.out self.new.out at result
+            (performed (rooms lent_cells lent_cells) (meaning (take count self.old.front)) (mem_in meta rows cells slots)).line }
+        ensures memory_after { mem_out meta rows cells slots
+            ≡ (performed (rooms lent_cells lent_cells) (meaning (take count self.old.front)) (mem_in meta rows cells slots)).after }
+    {
+        let text = &self.front[..count];
+        let reports = &mut self.reports;
+        let numbers = &mut self.numbers;
+        let out = &mut self.out;
+        perform::perform(text, meta, rows, cells, slots, reports, numbers, out, at)
+    }
+}
+
 // The next record of a piece, performed.
 fn play_record(
     piece: &[u8],
     place: Place,
-    front: &mut [u8],
+    desk: &mut Desk,
     meta: &mut [u64],
     rows: &mut [u64],
     cells: &mut [[u64; CELL_WORDS]],
     slots: &mut [[u64; WIDTH]],
-    reports: &mut [[u64; 3]],
-    numbers: &mut [u64],
-    out: &mut [u8],
 ) -> Turn
-    requires { Ready (length piece.now) (length front.old) (length reports.old) (length numbers.old) (length out.old) place }
-    ensures placed { Placed (length piece.now) (length front.new) (length out.new) place result }
-    ensures turned { (p : List ℕ) → Holds p front.old place.held
-        → Turned (rooms_in reports numbers) p (drop place.from piece.now) place front.new (mem_in meta rows cells slots) (mem_out meta rows cells slots) out.old out.new result }
+    requires { Ready (length piece.now) RECORD CELLS CELLS LARGE place }
+    ensures placed { Placed (length piece.now) RECORD LARGE place result }
+    ensures turned { (p : List ℕ) → Holds p desk.old.front place.held
+        → Turned (rooms lent_cells lent_cells) p (drop place.from piece.now) place desk.new.front (mem_in meta rows cells slots) (mem_out meta rows cells slots) desk.old.out desk.new.out result }
 {
     let at = place.at;
-    match pieces::next_record(front, place.held, piece, place.from) {
+    match pieces::next_record(&mut desk.front, place.held, piece, place.from) {
         Next::More(held) => Turn::More(Place {
             from: piece.len(),
             at,
             held,
         }),
         Next::Record { count, at: past } => {
-            let text = &front[..count];
-            let next = perform::perform(text, meta, rows, cells, slots, reports, numbers, out, at);
+            let next = desk.answer(count, at, meta, rows, cells, slots);
             Turn::Answered(Place {
                 from: past,
                 at: next,
@@ -89,27 +130,22 @@ fn play_record(
 fn play_batch(
     piece: &[u8],
     start: Place,
-    front: &mut [u8],
+    desk: &mut Desk,
     meta: &mut [u64],
     rows: &mut [u64],
     cells: &mut [[u64; CELL_WORDS]],
     slots: &mut [[u64; WIDTH]],
-    reports: &mut [[u64; 3]],
-    numbers: &mut [u64],
-    out: &mut [u8],
 ) -> Place
-    requires lent { Lent (length front.old) (length reports.old) (length numbers.old) (length out.old) }
-    requires stands { (Stands (length piece.now) (length front.old) (length out.old) start) × (start.at + longest_answer ≤ length out.old) }
-    ensures moved { Moved (length piece.now) (length front.new) (length out.new) start result }
-    ensures batched { (p : List ℕ) → Holds p front.old start.held
-        → Batched (rooms_in reports numbers) p (between piece.now start.from result.from) front.new result.held (mem_in meta rows cells slots) (mem_out meta rows cells slots) out.old out.new start.at result.at }
+    requires { (Stands (length piece.now) RECORD LARGE start) × (start.at + longest_answer ≤ LARGE) }
+    ensures moved { Moved (length piece.now) RECORD LARGE start result }
+    ensures batched { (p : List ℕ) → Holds p desk.old.front start.held
+        → Batched (rooms lent_cells lent_cells) p (between piece.now start.from result.from) desk.new.front result.held (mem_in meta rows cells slots) (mem_out meta rows cells slots) desk.old.out desk.new.out start.at result.at }
 {
     let mut place = start;
-    let last = out.len() - ANSWER;
+    let last = desk.out.len() - ANSWER;
+    // not a `for`: a turn goes on by as many bytes as an answer has
     while place.at <= last {
-        match play_record(
-            piece, place, front, meta, rows, cells, slots, reports, numbers, out,
-        ) {
+        match play_record(piece, place, desk, meta, rows, cells, slots) {
             Turn::More(next) => return next,
             Turn::Answered(next) => place = next,
         }
@@ -117,45 +153,33 @@ fn play_batch(
     place
 }
 
-// The start of a piece.
-fn first_place(held: Held) -> Place
-    ensures { (result.from ≡ 0) × ((result.at ≡ 0) × (result.held ≡ held)) }
-{
-    Place {
-        from: 0,
-        at: 0,
-        held,
-    }
-}
-
 // Every record that ends in the piece, batch after batch, each written out.
 fn play_piece<W: Write>(
     output: &mut W,
     piece: &[u8],
     held: Held,
-    front: &mut [u8],
+    desk: &mut Desk,
     meta: &mut [u64],
     rows: &mut [u64],
     cells: &mut [[u64; CELL_WORDS]],
     slots: &mut [[u64; WIDTH]],
-    reports: &mut [[u64; 3]],
-    numbers: &mut [u64],
-    out: &mut [u8],
 ) -> io::Result<Held>
-    requires lent { Lent (length front.old) (length reports.old) (length numbers.old) (length out.old) }
-    requires sane { Sane (length front.old) held }
-    ensures still_sane { IfOk result (λ h. Sane (length front.old) h) }
-    ensures taken { IfOk result (λ h. (p : List ℕ) → Holds p front.old held → Taken (rooms_in reports numbers) p piece.now front.new h (mem_in meta rows cells slots) (mem_out meta rows cells slots)) }
-    ensures written { OnOk result ((p : List ℕ) → Holds p front.old held → Wrote (rooms_in reports numbers) p piece.now (mem_in meta rows cells slots) (W.contents output.old) (W.contents output.new)) }
-    ensures stopped { OnErr result ((p : List ℕ) → Holds p front.old held → Stopped (rooms_in reports numbers) p piece.now (mem_in meta rows cells slots) (mem_out meta rows cells slots)) }
+    requires { Sane RECORD held }
+    ensures still_sane { IfOk result (λ h. Sane RECORD h) }
+    ensures taken { IfOk result (λ h. (p : List ℕ) → Holds p desk.old.front held → Taken (rooms lent_cells lent_cells) p piece.now desk.new.front h (mem_in meta rows cells slots) (mem_out meta rows cells slots)) }
+    ensures written { OnOk result ((p : List ℕ) → Holds p desk.old.front held → Wrote (rooms lent_cells lent_cells) p piece.now (mem_in meta rows cells slots) (W.contents output.old) (W.contents output.new)) }
+    ensures stopped { OnErr result ((p : List ℕ) → Holds p desk.old.front held → Stopped (rooms lent_cells lent_cells) p piece.now (mem_in meta rows cells slots) (mem_out meta rows cells slots)) }
 {
-    let mut place = first_place(held);
+    let mut place = Place {
+        from: 0,
+        at: 0,
+        held,
+    };
+    // nor here: a batch goes on by as many bytes as its records have
     while place.from < piece.len() {
-        place = play_batch(
-            piece, place, front, meta, rows, cells, slots, reports, numbers, out,
-        );
+        place = play_batch(piece, place, desk, meta, rows, cells, slots);
         let at = place.at;
-        output.write_all(&out[..at])?;
+        output.write_all(&desk.out[..at])?;
         place.at = 0;
     }
     Ok(place.held)
@@ -164,70 +188,47 @@ fn play_piece<W: Write>(
 // What has come at the end of the input is a last record, where it is not empty. Answers the place after its answer.
 fn answer_rest(
     held: Held,
-    front: &[u8],
+    desk: &mut Desk,
     meta: &mut [u64],
     rows: &mut [u64],
     cells: &mut [[u64; CELL_WORDS]],
     slots: &mut [[u64; WIDTH]],
-    reports: &mut [[u64; 3]],
-    numbers: &mut [u64],
-    out: &mut [u8],
 ) -> usize
-    requires lent { Lent (length front.now) (length reports.old) (length numbers.old) (length out.old) }
-    requires sane { Sane (length front.now) held }
-    ensures upper_bound { result ≤ length out.new }
-    ensures answered { (p : List ℕ) → Holds p front.now held → Answered (rooms_in reports numbers) (records p) (mem_in meta rows cells slots) (mem_out meta rows cells slots) out.old out.new 0 result }
+    requires { Sane RECORD held }
+    ensures upper_bound { result ≤ LARGE }
+    ensures answered { (p : List ℕ) → Holds p desk.old.front held → Answered (rooms lent_cells lent_cells) (records p) (mem_in meta rows cells slots) (mem_out meta rows cells slots) desk.old.out desk.new.out 0 result }
 {
     let count = held.count;
     if count == 0 {
         return 0;
     }
-    let text = &front[..count];
-    perform::perform(text, meta, rows, cells, slots, reports, numbers, out, 0)
+    desk.answer(count, 0, meta, rows, cells, slots)
 }
 
 // Every record that ends in the input; what is held at its end. A proved loop has to end, and nothing says that the input does: so it
-// counts its turns down, from a number that no run uses up.
+// counts its turns, to a number that no run uses up.
 fn play_input<R: Read, W: Write>(
     input: &mut R,
     output: &mut W,
-    front: &mut [u8],
+    desk: &mut Desk,
     meta: &mut [u64],
     rows: &mut [u64],
     cells: &mut [[u64; CELL_WORDS]],
     slots: &mut [[u64; WIDTH]],
-    reports: &mut [[u64; 3]],
-    numbers: &mut [u64],
-    out: &mut [u8],
 ) -> io::Result<Held>
-    requires { Lent (length front.old) (length reports.old) (length numbers.old) (length out.old) }
-    ensures sane { IfOk result (λ h. Sane (length front.old) h) }
-    ensures heard { IfOk result (λ h. Heard (rooms_in reports numbers) front.new h (mem_in meta rows cells slots) (mem_out meta rows cells slots)
+    ensures sane { IfOk result (λ h. Sane RECORD h) }
+    ensures heard { IfOk result (λ h. Heard (rooms lent_cells lent_cells) desk.new.front h (mem_in meta rows cells slots) (mem_out meta rows cells slots)
         (R.remaining input.old) (R.remaining input.new) (W.contents output.old) (W.contents output.new)) }
-    ensures failed { OnErr result (Failed (rooms_in reports numbers) (mem_in meta rows cells slots) (mem_out meta rows cells slots) (R.remaining input.old) (R.remaining input.new)) }
+    ensures failed { OnErr result (Failed (rooms lent_cells lent_cells) (mem_in meta rows cells slots) (mem_out meta rows cells slots) (R.remaining input.old) (R.remaining input.new)) }
 {
     let mut piece = [0u8; LARGE];
     let mut held = pieces::nothing();
-    let mut turns = LAST_ID;
-    while turns > 0 {
-        turns -= 1;
+    for _ in 0..LAST_ID {
         let n = input.read(&mut piece)?;
         if n == 0 {
             return Ok(held);
         }
-        held = play_piece(
-            output,
-            &piece[..n],
-            held,
-            front,
-            meta,
-            rows,
-            cells,
-            slots,
-            reports,
-            numbers,
-            out,
-        )?;
+        held = play_piece(output, &piece[..n], held, desk, meta, rows, cells, slots)?;
     }
     Ok(held)
 }
@@ -247,32 +248,28 @@ pub fn play<R: Read, W: Write>(
         → Whole (rooms lent_cells lent_cells) text (mem_in meta rows cells slots) (mem_out meta rows cells slots) (W.contents output.old) (W.contents output.new))) }
     ensures failed { OnErr result (Broken (rooms lent_cells lent_cells) (mem_in meta rows cells slots) (mem_out meta rows cells slots) (R.remaining input.old) (R.remaining input.new)) }
 {
-    let mut front = [0u8; RECORD];
-    let mut reports = [[0u64; 3]; CELLS];
-    let mut numbers = [0u64; CELLS];
-    let mut out = [0u8; LARGE];
-    let held = play_input(
-        input,
-        output,
-        &mut front,
-        meta,
-        rows,
-        cells,
-        slots,
-        &mut reports,
-        &mut numbers,
-        &mut out,
-    )?;
-    let end = answer_rest(
-        held,
-        &front,
-        meta,
-        rows,
-        cells,
-        slots,
-        &mut reports,
-        &mut numbers,
-        &mut out,
-    );
-    output.write_all(&out[..end])
+    let mut desk = Desk {
+        front: [0; RECORD],
+        reports: [[0; 3]; CELLS],
+        numbers: [0; CELLS],
+        out: [0; LARGE],
+    };
+    let held = play_input(input, output, &mut desk, meta, rows, cells, slots)?;
+    let end = answer_rest(held, &mut desk, meta, rows, cells, slots);
+    output.write_all(&desk.out[..end])
+}
+
+// The same on a store in which every field starts at zero, and which is gone at the end.
+pub fn run<R: Read, W: Write>(input: &mut R, output: &mut W) -> io::Result<()>
+    ensures replayed { OnOk result ((after : Mem base) × Replayed (rooms lent_cells lent_cells) (zeroed lent_rows lent_cells) after
+        (R.remaining input.old) (R.remaining input.new) (W.contents output.old) (W.contents output.new)) }
+    ensures whole { OnOk result (IfSome (R.remaining input.old) (λ text. length text < last_id
+        → Appends (W.contents output.old) (W.contents output.new) (replayed (rooms lent_cells lent_cells) (records text) (zeroed lent_rows lent_cells)))) }
+    ensures failed { OnErr result ((after : Mem base) × Broken (rooms lent_cells lent_cells) (zeroed lent_rows lent_cells) after (R.remaining input.old) (R.remaining input.new)) }
+{
+    let mut meta = [0u64; META_WORDS];
+    let mut rows = [0u64; ROWS];
+    let mut cells = [[0u64; CELL_WORDS]; CELLS];
+    let mut slots = [[0u64; WIDTH]; SLOTS];
+    play(input, output, &mut meta, &mut rows, &mut cells, &mut slots)
 }

@@ -1,14 +1,13 @@
 -- Publication looks at the heads and the cells alone, and changes nothing else: what is promised of those two arenas holds of a whole
 -- memory.
-use Rattle.std.specs.Prelude.{ℕ, ◌+◌, ◌-◌, ◌<◌, ◌≤◌, List, [], ◌∷◌, ◌≡◌, refl, length, get_or}
+use Rattle.std.specs.Prelude.{ℕ, List, [], ◌∷◌, ◌≡◌, refl, length}
 use Rattle.std.proofs.Common.{sym, ap, ◌∙◌}
 use Rattle.words.specs.Sizes.{base}
 use Rattle.words.specs.Lists.{fold}
-use Rattle.words.specs.Slots.{Write, write, threes}
+use Rattle.words.specs.Slots.{Write}
 use Rattle.rules.specs.Memory.{Mem, mem}
-use Rattle.words.specs.WordLaws.{threes_step, threes_done}
 use Rattle.rules.specs.Commit.{publish, publish_all}
-use Rattle.rules.specs.Theory.Bridge.{WriteIn, AllIn}
+use Rattle.rules.specs.Theory.Bridge.{WriteIn}
 
 -- the two arenas that publication changes
 abbrev pub lent : List ℕ → List (List ℕ) → Mem base
@@ -25,23 +24,6 @@ publish_parts id (w ∷ l) a r c s = publish_parts id l a (publish id w (lent r 
 pub publish_whole : (id : ℕ) (ws : List Write) (a r r' : List ℕ) (c c' s : List (List ℕ))
     → lent r' c' ≡ publish_all id ws (lent r c) → ◌≡◌ {A = Mem base} (mem a r' c' s) (publish_all id ws (mem a r c s))
 publish_whole id ws a r r' c c' s e = ap (λ (k : Mem base). mem a k.rows k.cells s) e ∙ sym (publish_parts id ws a r c s)
-
--- ---- a slot's entries, one after the other: what is left to publish
-
-module _ (t : List ℕ) (a k : ℕ) (m : Mem base) where
-  abbrev entry : Write
-  entry = write (get_or t a 0) (get_or t (a + 1) 0) (get_or t (a + 2) 0)
-
-  pub left_none : (id : ℕ) → k ≤ 0 → publish_all id (threes write t a k) m ≡ m
-  unfolding fold
-  left_none id h = rw (threes_done write t a k h)
-
-  pub left_step : (id : ℕ) → 0 < k → publish_all id (threes write t a k) m ≡ publish_all id (threes write t (a + 3) (k - 1)) (publish id entry m)
-  unfolding fold
-  left_step id h = rw (threes_step write t a k h)
-
-  pub left_in : 0 < k → AllIn m (threes write t a k) → WriteIn m entry × AllIn m (threes write t (a + 3) (k - 1))
-  left_in h p = rw (threes_step write t a k h) at p
 
 -- what is there stays there where the lengths do
 pub still_in : (m n : Mem base) (w : Write) → length n.rows ≡ length m.rows → length n.cells ≡ length m.cells → WriteIn m w → WriteIn n w

@@ -2,7 +2,7 @@
 // what a later one writes. Cut anywhere and made again from the start, the sequence ends the same (specs/Stores.antt).
 #![tactic(auto)]
 
-ghost use Rattle.std.specs.Prelude.{◌≡◌, min, ◌≤◌, length};
+ghost use Rattle.std.specs.Prelude.{◌≡◌, ◌≤◌, length};
 ghost use Rattle.words.specs.Sizes.{base};
 ghost use Rattle.words.specs.Slots.{slot_of, write};
 ghost use Rattle.rules.specs.Commit as rule;
@@ -11,9 +11,10 @@ ghost use Rattle.publish.specs.PublishLaws.{lent};
 
 use arena::{put_version, version_at};
 use kinds::Cell;
-use words::{CELL_WORDS, MOST_WRITES, TxId, WIDTH, WRITES};
+use words::{CELL_WORDS, TxId, WIDTH};
 
 // The base, where there is one, is superseded by this id and unlocked.
+#[tactic(auto, unfolding(rules::specs::Commit::mark_base))]
 fn mark_base(cells: &mut [[u64; CELL_WORDS]], base: Cell, id: TxId)
     requires { base.0 ≤ length cells.old }
     ensures { cells.new ≡ rule.mark_base id.0 base.0 cells.old }
@@ -21,13 +22,12 @@ fn mark_base(cells: &mut [[u64; CELL_WORDS]], base: Cell, id: TxId)
     if base.0 == 0 {
         return;
     }
-    let old = version_at(cells, base);
-    let marked = old.with_xmax(id);
-    let freed = marked.unlocked();
-    put_version(cells, base, freed);
+    let marked = version_at(cells, base).with_xmax(id).unlocked();
+    put_version(cells, base, marked);
 }
 
 // One write made public: the base marked, the new version linked to it, the head moved.
+#[tactic(auto, unfolding(rules::specs::Commit::publish))]
 fn publish_one(
     rows: &mut [u64],
     cells: &mut [[u64; CELL_WORDS]],
@@ -47,23 +47,13 @@ fn publish_one(
 }
 
 // Every write of a slot made public, in order.
+#[tactic(auto, using(crate::proofs::Loops::in_order), unfolding(words::specs::Lists::fold))]
 pub fn publish_all(rows: &mut [u64], cells: &mut [[u64; CELL_WORDS]], slot: &[u64; WIDTH], id: TxId)
     requires { AllIn (lent rows.old cells.old) (slot_of base slot.now).writes }
     ensures { lent rows.new cells.new
         ≡ rule.publish_all id.0 (slot_of base slot.now).writes (lent rows.old cells.old) }
 {
-    let mut left = words::at_most(slot[WRITES], MOST_WRITES as u64);
-    let mut a = WRITES + 1;
-    while left > 0 {
-        publish_one(
-            rows,
-            cells,
-            slot[a],
-            Cell(slot[a + 1]),
-            Cell(slot[a + 2]),
-            id,
-        );
-        a += 3;
-        left -= 1;
+    for &[row, base, new] in lists::writes(slot) {
+        publish_one(rows, cells, row, Cell(base), Cell(new), id);
     }
 }

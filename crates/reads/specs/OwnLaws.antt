@@ -1,57 +1,44 @@
 -- A slot's lists searched: own entries from the last back, records from the first on.
-use Rattle.std.specs.Prelude.{ℕ, zero, suc, ◌+◌, ◌*◌, ◌-◌, ◌<◌, ◌≤◌, Bool, true, false, cond, List, [], ◌∷◌, ◌++◌, ◌≡◌, refl, ◌≢◌, get_or}
-use Rattle.std.proofs.Math.Option.{none, some}
-use Rattle.std.proofs.Common.{sym, arith}
-use Rattle.std.proofs.Math.Path.{ap}
-use borrow.Author.Tests.{eq-eqb, ne_eqb}
+use Rattle.std.specs.Prelude.{ℕ, Bool, true, false, cond, ◌||◌, List, [], ◌∷◌, ◌≡◌, refl, get_or, nat_eq, Option as Maybe, Some, None}
+use Rattle.std.specs.List.{find, list_any}
+use Rattle.std.specs.Option.{option_map, option_or}
+use Rattle.std.proofs.Common.{reverse}
+use Rattle.std.proofs.lemmas.Bool.Decides.{nat_tests}
+use Rattle.std.proofs.lemmas.List.{reverse-append}
+use Rattle.std.proofs.lemmas.List.Folds.{find-append}
+use native.Mathlib.Omega.{arith}
+use Rattle.std.proofs.Math.Option.{Option, none, some}
+use Rattle.kinds.specs.declared.Cell.{Cell}
+use Rattle.kinds.specs.Versions.{at}
 use Rattle.words.specs.Lists.{last, or_else}
-use Rattle.words.specs.Slots.{Write, write, rec, threes}
+use Rattle.words.specs.Slots.{Write}
 use Rattle.rules.specs.Read.{own, recorded}
-use Rattle.words.specs.WordLaws.{threes_step, threes_done}
-use Rattle.rules.proofs.Theory.SlotLaws.{threes_more}
+use Rattle.lists.specs.Triples.{entry, entries, records}
+use Rattle.reads.specs.Found.{own_of}
 
--- the last of a list with one member more
-last_snoc : {A : Type 0} (p : A → Bool) (l : List A) (a : A) → last p (l ++ (a ∷ [])) ≡ cond (p a) (some a) (last p l)
-unfolding last
-last_snoc p [] a = refl
-last_snoc p (x ∷ l) a = rw (last_snoc p l a) (by (p a) refl)
-  where
-    by : (b : Bool) → p a ≡ b → or_else (cond (p a) (some a) (last p l)) (cond (p x) (some x) none) ≡ cond (p a) (some a) (or_else (last p l) (cond (p x) (some x) none))
-    by true e = rw e
-    by false e = rw e
+-- an entry is of the row; its new cell
+abbrev pub of_row : ℕ → List ℕ → Bool
+of_row row w = nat_eq (get_or w 0 0) row
 
--- entry k of the list at a
-abbrev entry : List ℕ → ℕ → ℕ → Write
-entry t a k = write (get_or t (a + 3 * k) 0) (get_or t (a + 3 * k + 1) 0) (get_or t (a + 3 * k + 2) 0)
+abbrev pub new_of : List ℕ → Cell
+new_of w = at (get_or w 2 0)
 
-more : (t : List ℕ) (a k : ℕ) → 0 < k → threes write t a k ≡ threes write t a (k - 1) ++ (entry t a (k - 1) ∷ [])
-more t a zero h = absurd (omega arith)
-more t a (suc k) h =
-    let e : suc k - 1 ≡ k = omega arith in
-    rw e (threes_more write t a k (a + 3 * k) refl)
+one_more : (o : Option Write) (q : Maybe (List ℕ)) (w : List ℕ) (b : Bool) → own_of o ≡ option_map new_of q
+    → own_of (or_else o (cond b (some (entry w)) none)) ≡ option_map new_of (option_or q (cond b (Some w) None))
+one_more none None w true e = refl
+one_more none None w false e = refl
+one_more none (Some v) w b e = cc
+one_more (some v) None w b e = cc
+one_more (some v) (Some u) w b e = e
 
-module _ (t : List ℕ) (a row k : ℕ) (h : 0 < k) where
-  pub own_here : get_or t (a + 3 * (k - 1)) 0 ≡ row → own (threes write t a k) row ≡ some (entry t a (k - 1))
-  unfolding own
-  own_here e = rw (more t a k h, last_snoc, eq-eqb _ row e)
-
-  pub own_back : get_or t (a + 3 * (k - 1)) 0 ≢ row → own (threes write t a k) row ≡ own (threes write t a (k - 1)) row
-  unfolding own
-  own_back n = rw (more t a k h, last_snoc, ne_eqb _ row n)
-
-pub own_none : (t : List ℕ) (a row k : ℕ) → k ≤ 0 → own (threes write t a k) row ≡ none
+pub own_found : (row : ℕ) (ws : List (List ℕ)) → own_of (own (entries ws) row) ≡ option_map new_of (find (of_row row) (reverse ws))
 unfolding own last
-own_none t a row k h = ap (λ (l : List Write). own l row) (threes_done write t a k h)
+own_found row [] = refl
+own_found row (w ∷ ws) = rw (reverse-append (w ∷ []) ws, find-append) (one_more (own (entries ws) row) (find (of_row row) (reverse ws)) w (of_row row w) (own_found row ws))
 
-module _ (t : List ℕ) (x a k : ℕ) where
-  pub recorded_done : k ≤ 0 → recorded x (threes rec t a k) ≡ false
-  unfolding recorded
-  recorded_done h = ap (recorded x) (threes_done rec t a k h)
-
-  pub recorded_here : 0 < k → get_or t (a + 1) 0 ≡ x → recorded x (threes rec t a k) ≡ true
-  unfolding recorded
-  recorded_here h e = rw (threes_step rec t a k h, eq-eqb x (get_or t (a + 1) 0) (sym e))
-
-  pub recorded_next : 0 < k → get_or t (a + 1) 0 ≢ x → recorded x (threes rec t a k) ≡ recorded x (threes rec t (a + 3) (k - 1))
-  unfolding recorded
-  recorded_next h n = rw (threes_step rec t a k h, ne_eqb x (get_or t (a + 1) 0) (λ e. n (sym e)))
+pub recorded_any : (c : ℕ) (rs : List (List ℕ)) → list_any (λ r. nat_eq (get_or r 1 0) c) rs ≡ recorded c (records rs)
+unfolding recorded
+recorded_any c [] = refl
+recorded_any c (r ∷ rs) =
+    let e : nat_eq (get_or r 1 0) c ≡ nat_eq c (get_or r 1 0) = grind (arith, nat_tests) in
+    λ i. e i || recorded_any c rs i

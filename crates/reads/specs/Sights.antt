@@ -14,25 +14,29 @@ use Rattle.rules.specs.Outcome.{is_cell}
 use Rattle.rules.specs.Read as R
 use Rattle.rules.specs.Read.{blocked, sees, own, recorded, sight_of, own_sight, read_row}
 use Rattle.rules.proofs.Theory.SlotLaws.{length_threes}
+use Rattle.std.specs.Prelude.{Result, Ok, Err}
+use Rattle.kinds.specs.declared.refusals.Refusal.{Refusal}
+use Rattle.kinds.specs.Results.{number, about}
+use Rattle.arena.specs.declared.Broken.{Broken}
 use Rattle.reads.specs.declared.Found.{Found}
 use Rattle.reads.specs.declared.Sight.{Sight}
 use Rattle.reads.specs.Found.{found_of}
 
-abbrev pub told : ℕ → Sight → R.Sight
-told row (Sight.Blocked k x) = blocked k x
-told row (Sight.Known c) = sees c.0 []
-told row (Sight.Fresh c x) = sees c.0 (rec row c.0 x.0 ∷ [])
+abbrev pub told : ℕ → Result Sight Refusal → R.Sight
+told row (Ok (Sight.Known c)) = sees c.0 []
+told row (Ok (Sight.Fresh c x)) = sees c.0 (rec row c.0 x.0 ∷ [])
+told row (Err e) = blocked (number e) (about e)
 
 -- a version found at cell c: known, or recorded where there is room
 unfoldable pub record_of : (ℕ → Version) → List Rec → ℕ → ℕ → R.Sight
 record_of f recs row c = cond (recorded c recs) (sees c []) (cond (leb base.reads (length recs)) (blocked read_set_full row) (sees c (rec row c (f c).xmin.0 ∷ [])))
 
-abbrev pub sight_found : (ℕ → Version) → List Rec → ℕ → Found → R.Sight
-sight_found f recs row (Found.Own c) = sees c.0 []
-sight_found f recs row (Found.Version c) = record_of f recs row c.0
-sight_found f recs row Found.Nothing = sees 0 []
-sight_found f recs row Found.TooLong = blocked chain_too_long row
-sight_found f recs row Found.Harmed = blocked damaged 0
+abbrev pub sight_found : (ℕ → Version) → List Rec → ℕ → Result Found Broken → R.Sight
+sight_found f recs row (Ok (Found.Own c)) = sees c.0 []
+sight_found f recs row (Ok (Found.Version c)) = record_of f recs row c.0
+sight_found f recs row (Ok Found.Nothing) = sees 0 []
+sight_found f recs row (Err Broken.TooLong) = blocked chain_too_long row
+sight_found f recs row (Err Broken.Harmed) = blocked damaged 0
 
 module _ (n : ℕ) (f : ℕ → Version) (head : ℕ) (t : Slot) (recs : List Rec) (row : ℕ) where
   along_look : (k : Look) → sight_of base n f head t recs row k ≡ sight_found f recs row (found_of n none k)
@@ -62,16 +66,16 @@ unfolding slot_of
 records_count t = length_threes rec t _ _
 
 -- where a record is to be added, there is room for it
-found_room : (f : ℕ → Version) (recs : List Rec) (row c : ℕ) (q : Rec) (l : List Rec) (k : Found) → sight_found f recs row k ≡ sees c (q ∷ l) → length recs < base.reads
+found_room : (f : ℕ → Version) (recs : List Rec) (row c : ℕ) (q : Rec) (l : List Rec) (k : Result Found Broken) → sight_found f recs row k ≡ sees c (q ∷ l) → length recs < base.reads
 unfolding record_of
-found_room f recs row c q l (Found.Own d) e = absurd (let z : ◌≡◌ {A = ℕ} 0 1 = cc in omega arith)
-found_room f recs row c q l Found.Nothing e = absurd (let z : ◌≡◌ {A = ℕ} 0 1 = cc in omega arith)
-found_room f recs row c q l Found.TooLong e = absurd (let z : ◌≡◌ {A = ℕ} 0 1 = cc in omega arith)
-found_room f recs row c q l Found.Harmed e = absurd (let z : ◌≡◌ {A = ℕ} 0 1 = cc in omega arith)
-found_room f recs row c q l (Found.Version d) e = by_bool (recorded d.0 recs)
-    (λ a. absurd (let g = rw a at e in let z : ◌≡◌ {A = ℕ} 0 1 = cc in omega arith))
+found_room f recs row c q l (Ok (Found.Own d)) e = cc
+found_room f recs row c q l (Ok Found.Nothing) e = cc
+found_room f recs row c q l (Err Broken.TooLong) e = cc
+found_room f recs row c q l (Err Broken.Harmed) e = cc
+found_room f recs row c q l (Ok (Found.Version d)) e = by_bool (recorded d.0 recs)
+    (λ a. let g = rw a at e in cc)
     (λ a. by_bool (leb base.reads (length recs))
-    (λ b. absurd (let g = rw (a, b) at e in let z : ◌≡◌ {A = ℕ} 0 1 = cc in omega arith))
+    (λ b. let g = rw (a, b) at e in cc)
     (λ b. leb-false base.reads (length recs) b))
 
 pub fresh_room : (n : ℕ) (f : ℕ → Version) (head : ℕ) (t : List ℕ) (row c : ℕ) (q : Rec) (l : List Rec)

@@ -6,8 +6,7 @@ use Rattle.std.proofs.Math.Path.{refl, sym, ap}
 use Rattle.std.proofs.Common.{◌∙◌, subst, inl, inr, arith, get_or-set_same}
 use Rattle.std.proofs.Math.ListN.{length}
 use Rattle.kinds.specs.declared.Version.{Version}
-use Rattle.kinds.specs.declared.Answer.{Answer}
-use Rattle.kinds.specs.declared.Answer.TheVariants.{Done}
+use Rattle.kinds.specs.Answer.{Answer, Done}
 use Rattle.words.specs.Sizes.{Sizes, FREE}
 use Rattle.words.specs.Lists.{nonzero, fold}
 use Rattle.rules.proofs.Theory.Cases.{by_bool, by_eq, by_le}

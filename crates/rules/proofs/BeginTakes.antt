@@ -1,8 +1,7 @@
 -- Begin: "lowest empty slot, id = clock, clock + 1".
 use Rattle.std.specs.Prelude.{ℕ, zero, suc, ◌+◌, ◌<◌, List, [], ◌∷◌, ◌≡◌, refl, ◌≢◌, get_or, take}
 use Rattle.std.proofs.Common.{sym, ap, ◌∙◌, arith, get_or-take, get_or-set_same, eq-eqb, ne_eqb, le-leb}
-use Rattle.kinds.specs.declared.Answer.{Answer}
-use Rattle.kinds.specs.declared.Answer.TheVariants.{Begun}
+use Rattle.kinds.specs.Answer.{Answer, Begun}
 use Rattle.words.specs.Sizes.{Sizes, ID, CLOCK}
 use Rattle.rules.proofs.Theory.Cases.{by_eq, by_le}
 use Rattle.kinds.specs.Versions.{tx}

@@ -1,8 +1,7 @@
 -- Commit: several writes together or not at all. "All tests come before any change."
 use Rattle.std.specs.Prelude.{ℕ, ◌<◌, List, [], ◌∷◌, ◌++◌, ◌≡◌, refl, ◌≢◌, ◌⊎◌}
 use Rattle.std.proofs.Common.{ap, inl, inr, ⊎_elim, arith}
-use Rattle.kinds.specs.declared.Answer.{Answer}
-use Rattle.kinds.specs.declared.Answer.TheVariants.{Done}
+use Rattle.kinds.specs.Answer.{Answer, Done}
 use Rattle.words.specs.Sizes.{Sizes}
 use Rattle.rules.specs.Numbers.{write_conflict, damaged}
 use Rattle.kinds.specs.Versions.{version_at}

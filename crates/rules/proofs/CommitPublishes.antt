@@ -1,7 +1,7 @@
 -- An accepted commit, head by head and cell by cell.
 use Rattle.std.specs.Prelude.{ℕ, ◌≤◌, ◌<◌, List, [], ◌∷◌, ◌++◌, ◌≡◌, refl, ◌≢◌, length, get_or}
 use Rattle.std.proofs.Common.{sym, ap, subst, inl, inr, arith, get_or-set_same}
-use Rattle.kinds.specs.declared.Answer.{Answer}
+use Rattle.kinds.specs.Answer.{Answer}
 use Rattle.words.specs.Sizes.{Sizes}
 use Rattle.rules.proofs.Theory.Cases.{by_bool}
 use Rattle.kinds.specs.Versions.{with_xmax, with_next, unlocked, cell_at, version_at}

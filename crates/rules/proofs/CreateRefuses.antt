@@ -1,7 +1,7 @@
 -- Creation and begin refuse exactly when the paper says.
 use Rattle.std.specs.Prelude.{ℕ, List, [], ◌∷◌, ◌++◌, ◌≡◌, take}
 use Rattle.std.proofs.Math.Path.{refl}
-use Rattle.kinds.specs.declared.Answer.TheVariants.{Done, Begun}
+use Rattle.kinds.specs.Answer.{Done, Begun}
 use Rattle.words.specs.Sizes.{Sizes, last_id}
 use Rattle.rules.specs.Numbers.{bad_size, clock_spent, no_free_slot}
 use Rattle.kinds.specs.Versions.{tx}

@@ -5,8 +5,8 @@ use Rattle.std.specs.Prelude.{ℕ, ◌≤◌, ◌<◌, List, [], ◌∷◌, ◌+
 use Rattle.std.proofs.Math.Option.{Option}
 use Rattle.std.proofs.Math.Logic.Iff
 use Rattle.std.proofs.Common.{inl, inr, ⊎_elim, arith}
-use Rattle.kinds.specs.declared.ReadAnswer.{ReadAnswer}
-use Rattle.kinds.specs.declared.Answer.{Answer}
+use Rattle.kinds.specs.ReadAnswer.{ReadAnswer}
+use Rattle.kinds.specs.Answer.{Answer}
 use Rattle.words.specs.Sizes.{Sizes, ACTIVE, WRITES, READS}
 use Rattle.rules.specs.Numbers.{bad_row, damaged}
 use Rattle.rules.proofs.Theory.Cases.{by_eq, by_le}

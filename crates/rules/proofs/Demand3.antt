@@ -4,9 +4,8 @@
 use Rattle.std.specs.Prelude.{true, false, ◌∷◌, [], List, ◌≢◌, ◌⊎◌, ◌≡◌, refl, ℕ, ◌<◌, ◌≤◌, suc, length}
 use Rattle.std.proofs.Math.Option.{Option}
 use Rattle.std.proofs.Common.{◌∙◌, ap, sym, arith}
-use Rattle.kinds.specs.declared.Answer.{Answer}
-use Rattle.kinds.specs.declared.Answer.TheVariants.{Done}
-use Rattle.kinds.specs.declared.ReadAnswer.{ReadAnswer}
+use Rattle.kinds.specs.Answer.{Answer, Done}
+use Rattle.kinds.specs.ReadAnswer.{ReadAnswer}
 use Rattle.words.specs.Sizes.{base, Roomy, Sizes}
 use Rattle.rules.specs.Numbers.{read_number, number_of}
 use Rattle.words.specs.Lists.{or_else, keep, from}

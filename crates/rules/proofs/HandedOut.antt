@@ -8,7 +8,7 @@ use Rattle.std.proofs.Math.Path.{sym, ap}
 use Rattle.std.proofs.Common.{◌∙◌, subst, inl, inr, arith, length-set, eq-eqb, ne_eqb}
 use Rattle.std.proofs.Math.ListN.{get_or}
 use Rattle.std.proofs.Math.Seq.{get_or-set_same}
-use Rattle.kinds.specs.declared.Answer.TheVariants.{Wrote}
+use Rattle.kinds.specs.Answer.{Wrote}
 use Rattle.words.specs.Sizes.{Sizes, FREE}
 use Rattle.rules.proofs.Theory.Cases.{by_eq, by_le}
 use Rattle.words.specs.Lists.{fold, from}

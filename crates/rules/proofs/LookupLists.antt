@@ -3,8 +3,7 @@
 use Rattle.std.specs.Prelude.{ℕ, List, [], ◌∷◌, ◌++◌, ◌≡◌, refl, length}
 use Rattle.std.proofs.Common.{append-nil, append_assoc, sym, ap, ◌∙◌, subst, inl, inr}
 use Rattle.std.proofs.Math.Option.{Option, none, some}
-use Rattle.kinds.specs.declared.Answer.{Answer}
-use Rattle.kinds.specs.declared.Answer.TheVariants.{Listed}
+use Rattle.kinds.specs.Answer.{Answer, Listed}
 use Rattle.words.specs.Sizes.{Sizes}
 use Rattle.words.specs.Lists.{from}
 use Rattle.kinds.specs.Versions.{version_at}

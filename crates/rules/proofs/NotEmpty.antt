@@ -4,9 +4,8 @@ use Rattle.std.specs.Prelude.{ℕ, ◌<◌, ◌≡◌, refl, ◌≢◌, get_or, 
 use mathlib.Core.List.{List, [], ◌∷◌, reverse_aux}
 use Rattle.std.proofs.Math.Option.{some}
 use Rattle.std.proofs.Common.{sym, ◌∙◌, subst, inl, inr, arith}
-use Rattle.kinds.specs.declared.ReadAnswer.{ReadAnswer}
-use Rattle.kinds.specs.declared.ReadAnswer.TheVariants.{None, Key}
-use Rattle.kinds.specs.declared.Answer.TheVariants.{Done, Begun, Wrote, Vacuumed, Listed}
+use Rattle.kinds.specs.ReadAnswer.{ReadAnswer, None, Key}
+use Rattle.kinds.specs.Answer.{Done, Begun, Wrote, Vacuumed, Listed}
 use Rattle.words.specs.Sizes.{base, last_id, ID}
 use Rattle.words.specs.Lists.{has, keep, first, last, fold, least, greatest, from}
 use Rattle.kinds.specs.Versions.{tx, at, version_of, words_of, cell_at, version_at, with_xmax, with_next, locked_for, unlocked, put_cell}

@@ -1,8 +1,8 @@
 -- The specifications of the nine calls as one, over a call and its reply: every call meets it, and no second reply or memory does.
 use Rattle.std.specs.Prelude.{ℕ, List, ◌≡◌, refl}
 use Rattle.std.proofs.Common.{sym, ap, ◌∙◌}
-use Rattle.kinds.specs.declared.ReadAnswer.{ReadAnswer}
-use Rattle.kinds.specs.declared.Answer.{Answer}
+use Rattle.kinds.specs.ReadAnswer.{ReadAnswer}
+use Rattle.kinds.specs.Answer.{Answer}
 use Rattle.words.specs.Sizes.{Sizes}
 use Rattle.rules.specs.Memory.{Mem}
 use Rattle.rules.specs.Outcome.{Outcome}

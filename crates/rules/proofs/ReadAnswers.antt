@@ -3,8 +3,7 @@ use Rattle.std.specs.Prelude.{ℕ, ◌≡◌, ◌≢◌}
 use Rattle.std.proofs.Common.{ap, ⊎_elim}
 use borrow.Author.Tests.{eq-eqb, ne_eqb}
 use Rattle.kinds.specs.declared.Version.{Version}
-use Rattle.kinds.specs.declared.ReadAnswer.{ReadAnswer}
-use Rattle.kinds.specs.declared.ReadAnswer.TheVariants.{None, Empty, Key}
+use Rattle.kinds.specs.ReadAnswer.{ReadAnswer, None, Empty, Key}
 use Rattle.words.specs.Sizes.{Sizes}
 use Rattle.rules.proofs.Theory.Cases.{by_eq}
 use Rattle.rules.specs.Memory.{Mem}

@@ -5,8 +5,7 @@ use Rattle.std.proofs.Math.Path.{refl, subst}
 use Rattle.std.proofs.Common.{sym, ap, ◌∙◌, arith}
 use Rattle.std.proofs.Math.Logic.{inl, inr}
 use Rattle.kinds.specs.declared.Version.{Version}
-use Rattle.kinds.specs.declared.ReadAnswer.{ReadAnswer}
-use Rattle.kinds.specs.declared.ReadAnswer.TheVariants.{None, Empty, Key}
+use Rattle.kinds.specs.ReadAnswer.{ReadAnswer, None, Empty, Key}
 use Rattle.words.specs.Sizes.{Sizes}
 use Rattle.rules.specs.Numbers.{chain_too_long, read_set_full, damaged}
 use Rattle.words.specs.Lists.{nonzero}

@@ -3,8 +3,8 @@
 use Rattle.std.specs.Prelude.{List, ◌∷◌, [], ◌≢◌, ◌≡◌, refl, ℕ, ◌≤◌, replicate}
 use Rattle.std.proofs.Math.Option.{some, none}
 use Rattle.std.proofs.Common.{ap}
-use Rattle.kinds.specs.declared.Answer.TheVariants.{Begun, Wrote, Done, Vacuumed, Listed}
-use Rattle.kinds.specs.declared.ReadAnswer.TheVariants.{Key, None}
+use Rattle.kinds.specs.Answer.{Begun, Wrote, Done, Vacuumed, Listed}
+use Rattle.kinds.specs.ReadAnswer.{Key, None}
 use Rattle.words.specs.Sizes.{base, last_id}
 use Rattle.words.specs.Lists.{last, fold, has, keep, first, least, greatest, from}
 use Rattle.kinds.specs.Versions.{at, tx, version_of, words_of, cell_at, put_cell}

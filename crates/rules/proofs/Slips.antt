@@ -1,9 +1,8 @@
 -- 01's "Slips we have seen", and slips beside them: a run and three stores, computed, whose answers each slip would change.
 use Rattle.std.specs.Prelude.{List, ◌∷◌, [], ◌≡◌, refl, replicate}
 use Rattle.std.proofs.Math.Option.{some}
-use Rattle.kinds.specs.declared.Answer.{Answer}
-use Rattle.kinds.specs.declared.Answer.TheVariants.{Begun, Wrote, Done, Vacuumed}
-use Rattle.kinds.specs.declared.ReadAnswer.TheVariants.{Key}
+use Rattle.kinds.specs.Answer.{Answer, Begun, Wrote, Done, Vacuumed}
+use Rattle.kinds.specs.ReadAnswer.{Key}
 use Rattle.words.specs.Sizes.{base, last_id}
 use Rattle.words.specs.Lists.{last, fold, has, keep, first, least, greatest, from}
 use Rattle.kinds.specs.Versions.{at, tx, version_of, words_of, cell_at, put_cell, version_at, put_version, with_xmax, reclaimable}

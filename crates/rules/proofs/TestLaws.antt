@@ -2,8 +2,7 @@
 use Rattle.std.specs.Prelude.{ℕ, ◌+◌, ◌-◌, ◌<◌, ◌≤◌, true, false, not, List, [], ◌∷◌, ◌≡◌, ◌≢◌, get_or}
 use Rattle.std.proofs.Common.{sym, ap, ◌∙◌, arith, eq-eqb, ne_eqb, le-leb}
 use Rattle.std.proofs.lemmas.Bool.{lt-leb}
-use Rattle.kinds.specs.declared.Verdict.{Verdict}
-use Rattle.kinds.specs.declared.Verdict.TheVariants.{Fine, Refused}
+use Rattle.kinds.specs.Verdict.{Verdict, Fine, Refused}
 use Rattle.words.specs.Slots.{threes}
 use Rattle.rules.specs.Outcome.{Test, each, is_cell}
 use Rattle.rules.specs.Verdicts.{verdict, and_then}

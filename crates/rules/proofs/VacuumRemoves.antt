@@ -4,9 +4,8 @@
 use Rattle.std.specs.Prelude.{ℕ, ◌≤◌, List, [], ◌∷◌, map, ◌≡◌, refl, ◌≢◌, ◌↔◌, length, get_or}
 use Rattle.std.proofs.Common.{sym, ap, ◌∙◌, subst, inl, inr, arith}
 use Rattle.kinds.specs.declared.Version.{Version}
-use Rattle.kinds.specs.declared.ReadAnswer.TheVariants.{None}
-use Rattle.kinds.specs.declared.Answer.{Answer}
-use Rattle.kinds.specs.declared.Answer.TheVariants.{Vacuumed}
+use Rattle.kinds.specs.ReadAnswer.{None}
+use Rattle.kinds.specs.Answer.{Answer, Vacuumed}
 use Rattle.words.specs.Sizes.{Sizes, CELLS, FREE}
 use Rattle.kinds.specs.Versions.{with_next, value_of, empty_version, version_of, cell_at, version_at, link_at}
 use Rattle.rules.specs.Memory.{Mem, size_r, size_n, head_at, with_cells}

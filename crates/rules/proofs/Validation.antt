@@ -4,8 +4,7 @@ use mathlib.Core.List.{List, [], ◌∷◌, ◌++◌}
 use Rattle.std.proofs.Common.{inl, inr, arith, eqb-true, ne_eqb, leb-false}
 use Rattle.std.proofs.Math.Path.{◌≡◌}
 use Rattle.std.proofs.lemmas.Bool.{not-false}
-use Rattle.kinds.specs.declared.Answer.{Answer}
-use Rattle.kinds.specs.declared.Answer.TheVariants.{Done}
+use Rattle.kinds.specs.Answer.{Answer, Done}
 use Rattle.kinds.specs.declared.Version.{Version}
 use Rattle.words.specs.Sizes.{Sizes}
 use Rattle.kinds.specs.Versions.{version_at}

@@ -4,7 +4,7 @@ use Rattle.std.specs.Prelude.{ℕ, Bool, true, false}
 use mathlib.Core.List.{List, [], ◌∷◌, ◌++◌}
 use Rattle.std.proofs.Math.Path.{◌≡◌, refl}
 use Rattle.std.proofs.Common.{arith}
-use Rattle.kinds.specs.declared.Verdict.TheVariants.{Fine, Refused}
+use Rattle.kinds.specs.Verdict.{Fine, Refused}
 use Rattle.rules.specs.Outcome.{Test, guard, each}
 use Rattle.rules.specs.Verdicts.{verdict, and_then}
 

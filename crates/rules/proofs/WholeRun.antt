@@ -1,8 +1,8 @@
 -- Paper 01's whole run, computed from memory in which every word is 0.
 use Rattle.std.specs.Prelude.{◌≡◌, refl, List, [], ◌∷◌, replicate}
 use Rattle.std.proofs.Math.Option.{some}
-use Rattle.kinds.specs.declared.ReadAnswer.TheVariants.{Key}
-use Rattle.kinds.specs.declared.Answer.TheVariants.{Done, Begun, Wrote, Vacuumed, Listed, Refused}
+use Rattle.kinds.specs.ReadAnswer.{Key}
+use Rattle.kinds.specs.Answer.{Done, Begun, Wrote, Vacuumed, Listed, Refused}
 use Rattle.words.specs.Sizes.{base, last_id}
 use Rattle.words.specs.Lists.{has, keep, first, last, fold, least, greatest, from}
 use Rattle.kinds.specs.Versions.{tx, at, version_of, words_of, cell_at, put_cell}

@@ -6,7 +6,7 @@ use Rattle.std.proofs.Math.Option.{Option, none, some}
 use Rattle.std.proofs.Math.Path.{refl, ap}
 use Rattle.std.proofs.Common.{◌∙◌, ⊎_elim, arith, eq-eqb, ne_eqb}
 use Rattle.std.proofs.Math.Seq.{get_or-set_same}
-use Rattle.kinds.specs.declared.Answer.{Answer}
+use Rattle.kinds.specs.Answer.{Answer}
 use Rattle.words.specs.Sizes.{Sizes}
 use Rattle.rules.proofs.Theory.Cases.{by_eq, by_le}
 use Rattle.kinds.specs.Versions.{locked_for, new_version, version_of, cell_at, version_at, link_at, put_cell}

@@ -5,8 +5,7 @@ use Rattle.std.proofs.Math.Option.{Option, none, some}
 use Rattle.std.proofs.Math.Path.{◌≡◌, refl, sym, subst}
 use Rattle.std.proofs.Common.{◌∙◌, arith}
 use Rattle.kinds.specs.declared.Version.{Version}
-use Rattle.kinds.specs.declared.Answer.{Answer}
-use Rattle.kinds.specs.declared.Answer.TheVariants.{Wrote}
+use Rattle.kinds.specs.Answer.{Answer, Wrote}
 use Rattle.words.specs.Sizes.{Sizes, WRITES}
 use Rattle.rules.specs.Numbers.{row_locked, write_conflict, no_room, write_set_full, damaged}
 use Rattle.rules.proofs.Theory.Cases.{by_bool}

@@ -1,7 +1,6 @@
 -- Abort: "unlock each base whose owner is this id, give cells back in write order, empty the slot".
 use Rattle.std.specs.Prelude.{ℕ, not, ◌&&◌, cond, List, [], ◌∷◌, ◌++◌, set, eqb, ltb}
-use Rattle.kinds.specs.declared.Answer.{Answer}
-use Rattle.kinds.specs.declared.Answer.TheVariants.{Done}
+use Rattle.kinds.specs.Answer.{Answer, Done}
 use Rattle.words.specs.Sizes.{Sizes, FREE}
 use Rattle.rules.specs.Numbers.{damaged}
 use Rattle.words.specs.Lists.{nonzero, fold}

@@ -1,7 +1,6 @@
 -- Begin: "lowest empty slot, id = clock, clock + 1, then the snapshot".
 use Rattle.std.specs.Prelude.{ℕ, ◌+◌, List, [], ◌∷◌, ◌++◌, take, set, eqb, leb}
-use Rattle.kinds.specs.declared.Answer.{Answer}
-use Rattle.kinds.specs.declared.Answer.TheVariants.{Begun}
+use Rattle.kinds.specs.Answer.{Answer, Begun}
 use Rattle.words.specs.Sizes.{Sizes, CLOCK, ID, last_id}
 use Rattle.rules.specs.Numbers.{clock_spent, no_free_slot}
 use Rattle.kinds.specs.Versions.{tx}

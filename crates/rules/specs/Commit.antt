@@ -1,8 +1,7 @@
 -- Commit: "no writes: just end. Otherwise validate, then for each write in order head must equal base and a nonzero base must have
 -- xmax 0. All tests come before any change."
 use Rattle.std.specs.Prelude.{ℕ, not, ◌&&◌, cond, List, [], ◌∷◌, ◌++◌, eqb, ltb, leb}
-use Rattle.kinds.specs.declared.Answer.{Answer}
-use Rattle.kinds.specs.declared.Answer.TheVariants.{Done}
+use Rattle.kinds.specs.Answer.{Answer, Done}
 use Rattle.words.specs.Sizes.{Sizes}
 use Rattle.rules.specs.Numbers.{write_conflict, read_conflict, damaged}
 use Rattle.words.specs.Lists.{nonzero, fold}

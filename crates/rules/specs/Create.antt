@@ -1,8 +1,7 @@
 -- Creation: R rows, N cells, a new history.
 use Rattle.std.specs.Prelude.{ℕ, zero, suc, ◌+◌, not, cond, List, [], ◌∷◌, replicate, eqb}
 use Rattle.std.proofs.lemmas.List.Edits.{sets}
-use Rattle.kinds.specs.declared.Answer.{Answer}
-use Rattle.kinds.specs.declared.Answer.TheVariants.{Done}
+use Rattle.kinds.specs.Answer.{Answer, Done}
 use Rattle.words.specs.Sizes.{Sizes}
 use Rattle.rules.specs.Numbers.{bad_size}
 use Rattle.kinds.specs.Versions.{empty_version, words_of}

@@ -1,8 +1,8 @@
 -- Every refusal of every call: one table for each call, in the paper's order, and one theorem. "Order: sizes and clock, slot, owner,
 -- counts, row, then the call's steps as told." Then 4, 5, 1, 3 and 2, each alone; 6 stands with 15.
 use Rattle.std.specs.Prelude.{ℕ, ◌≡◌}
-use Rattle.kinds.specs.declared.ReadAnswer.{ReadAnswer}
-use Rattle.kinds.specs.declared.Answer.{Answer}
+use Rattle.kinds.specs.ReadAnswer.{ReadAnswer}
+use Rattle.kinds.specs.Answer.{Answer}
 use Rattle.rules.specs.Run.{Call, create, begin, read, write, commit, abort, vacuum, lookup, lookup_all, Reply, looked, gave, swept}
 
 -- the reply is a refusal with number k and value x

@@ -4,8 +4,7 @@
 -- definition decides its line's condition is shown test by test, and the rest of the proof is the same for every call.
 use Rattle.std.specs.Prelude.{ℕ, Bool, true, false, ◌≡◌, ◌≢◌, ◌⊎◌}
 use mathlib.Core.List.{List, [], ◌∷◌, ◌++◌}
-use Rattle.kinds.specs.declared.Answer.{Answer}
-use Rattle.kinds.specs.declared.Answer.TheVariants.{Done, Begun, Wrote, Vacuumed, Listed}
+use Rattle.kinds.specs.Answer.{Answer, Done, Begun, Wrote, Vacuumed, Listed}
 use Rattle.words.specs.Sizes.{Sizes}
 use Rattle.rules.specs.Memory.{Mem}
 use Rattle.rules.specs.Outcome.{Outcome, out, Test}

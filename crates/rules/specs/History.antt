@@ -1,10 +1,8 @@
 -- The history of a store: a log of what was accepted, newest first, told by the calls and their replies alone; and what the log says.
 use Rattle.std.specs.Prelude.{cond, ◌&&◌, Bool, false, true, List, [], ◌∷◌, ◌++◌, ◌≡◌, ℕ, eqb}
 use Rattle.std.proofs.Math.Option.{Option, none, some}
-use Rattle.kinds.specs.declared.Answer.{Answer}
-use Rattle.kinds.specs.declared.Answer.TheVariants.{Done, Begun, Wrote, Vacuumed, Listed}
-use Rattle.kinds.specs.declared.ReadAnswer.{ReadAnswer}
-use Rattle.kinds.specs.declared.ReadAnswer.TheVariants.{Empty, Key, None}
+use Rattle.kinds.specs.Answer.{Answer, Done, Begun, Wrote, Vacuumed, Listed}
+use Rattle.kinds.specs.ReadAnswer.{ReadAnswer, Empty, Key, None}
 use Rattle.words.specs.Lists.{or_else}
 use Rattle.rules.specs.Vacuum.{reports}
 use Rattle.rules.specs.Run.{commit, write, Call, Reply, looked, swept, create, gave, begin, read, abort, vacuum, lookup, lookup_all}

@@ -2,8 +2,7 @@
 -- order, 14 last within a row".
 use Rattle.std.specs.Prelude.{Bool, true, false, not, ◌||◌, ◌&&◌, cond, List, [], ◌∷◌, ◌++◌, ◌≢◌, ◌≡◌, ℕ, ◌+◌, ltb, leb, eqb, length}
 use Rattle.std.proofs.Math.Option.{Option, none, some}
-use Rattle.kinds.specs.declared.Answer.{Answer}
-use Rattle.kinds.specs.declared.Answer.TheVariants.{Listed}
+use Rattle.kinds.specs.Answer.{Answer, Listed}
 use Rattle.words.specs.Sizes.{Sizes}
 use Rattle.rules.specs.Numbers.{chain_too_long, read_set_full, result_full}
 use Rattle.words.specs.Lists.{keep, has, from, first}

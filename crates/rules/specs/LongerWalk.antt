@@ -2,7 +2,7 @@
 -- 10 of the shorter may turn into something else.
 use Rattle.std.specs.Prelude.{ℕ}
 use Rattle.std.proofs.Math.Path.{◌≡◌}
-use Rattle.kinds.specs.declared.ReadAnswer.{ReadAnswer}
+use Rattle.kinds.specs.ReadAnswer.{ReadAnswer}
 use Rattle.words.specs.Sizes.{Sizes}
 use Rattle.rules.specs.Memory.{Mem, mem}
 use Rattle.rules.specs.Outcome.{Outcome}

@@ -1,10 +1,8 @@
 -- Lookup of a key: "candidates (any order, repeats allowed) and own written rows are read in ascending order, each once; the rows with
 -- that key are listed ascending. A second call serves all rows."
 use Rattle.std.specs.Prelude.{ℕ, Bool, false, ◌||◌, cond, List, [], ◌∷◌, ◌++◌, length, take, eqb, leb}
-use Rattle.kinds.specs.declared.ReadAnswer.{ReadAnswer}
-use Rattle.kinds.specs.declared.ReadAnswer.TheVariants.{None, Empty, Key}
-use Rattle.kinds.specs.declared.Answer.{Answer}
-use Rattle.kinds.specs.declared.Answer.TheVariants.{Listed}
+use Rattle.kinds.specs.ReadAnswer.{ReadAnswer, None, Empty, Key}
+use Rattle.kinds.specs.Answer.{Answer, Listed}
 use Rattle.words.specs.Sizes.{Sizes}
 use Rattle.rules.specs.Numbers.{result_full, damaged}
 use Rattle.words.specs.Lists.{has, keep, fold, from}

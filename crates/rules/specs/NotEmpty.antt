@@ -3,9 +3,8 @@
 use Rattle.std.specs.Prelude.{◌+◌, true, ◌≡◌, length, set, replicate}
 use mathlib.Core.List.{List, [], ◌∷◌}
 use Rattle.std.proofs.Math.Option.{some}
-use Rattle.kinds.specs.declared.ReadAnswer.{ReadAnswer}
-use Rattle.kinds.specs.declared.ReadAnswer.TheVariants.{None, Key}
-use Rattle.kinds.specs.declared.Answer.TheVariants.{Done, Begun, Wrote, Vacuumed, Listed, Refused}
+use Rattle.kinds.specs.ReadAnswer.{ReadAnswer, None, Key}
+use Rattle.kinds.specs.Answer.{Done, Begun, Wrote, Vacuumed, Listed, Refused}
 use Rattle.words.specs.Sizes.{base, last_id, WRITES}
 use Rattle.kinds.specs.Versions.{tx, at, version_at, link_at}
 use Rattle.words.specs.Slots.{words, threes, slot_of, push, opened}

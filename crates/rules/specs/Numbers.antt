@@ -1,9 +1,7 @@
 -- Paper 01, "Numbers for no": the refusals by name. And its number and values for each case of an answer.
 use Rattle.std.specs.Prelude.{ℕ, List, [], ◌∷◌}
-use Rattle.kinds.specs.declared.ReadAnswer.{ReadAnswer}
-use Rattle.kinds.specs.declared.ReadAnswer.TheVariants.{None, Empty, Key}
-use Rattle.kinds.specs.declared.Answer.{Answer}
-use Rattle.kinds.specs.declared.Answer.TheVariants.{Done, Begun, Wrote, Vacuumed, Listed}
+use Rattle.kinds.specs.ReadAnswer.{ReadAnswer, None, Empty, Key}
+use Rattle.kinds.specs.Answer.{Answer, Done, Begun, Wrote, Vacuumed, Listed}
 
 abbrev pub bad_size : ℕ
 bad_size = 1

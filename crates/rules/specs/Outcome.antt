@@ -1,7 +1,7 @@
 -- What a call comes to, and how its tests refuse it.
 use Rattle.std.specs.Prelude.{ℕ, Bool, not, ◌&&◌, ◌||◌, cond, List, [], ◌∷◌, ◌++◌, length, get_or, eqb, ltb, leb}
-use Rattle.kinds.specs.declared.ReadAnswer.{ReadAnswer}
-use Rattle.kinds.specs.declared.Answer.{Answer}
+use Rattle.kinds.specs.ReadAnswer.{ReadAnswer}
+use Rattle.kinds.specs.Answer.{Answer}
 use Rattle.words.specs.Sizes.{Sizes, meta_words, ID, ACTIVE, WRITES, READS}
 use Rattle.rules.specs.Numbers.{bad_slot, not_owner, bad_row, damaged}
 use Rattle.words.specs.Lists.{nonzero}

@@ -2,9 +2,8 @@
 -- the theorems on reachable stores speak of.
 use Rattle.std.specs.Prelude.{Bool, cond, false, true, not, List, ◌∷◌, [], ◌++◌, ◌≢◌, ◌⊎◌, ◌≡◌, ℕ, ◌<◌, suc, ◌≤◌, eqb, take, length}
 use Rattle.std.proofs.Math.Option.{Option, none, some}
-use Rattle.kinds.specs.declared.Answer.{Answer}
-use Rattle.kinds.specs.declared.Answer.TheVariants.{Done, Vacuumed}
-use Rattle.kinds.specs.declared.ReadAnswer.TheVariants.{None}
+use Rattle.kinds.specs.Answer.{Answer, Done, Vacuumed}
+use Rattle.kinds.specs.ReadAnswer.{None}
 use Rattle.words.specs.Sizes.{Sizes}
 use Rattle.words.specs.Lists.{nonzero, first, from, has, keep}
 use Rattle.kinds.specs.Versions.{version_at, with_next, empty_version, link_at, value_of}

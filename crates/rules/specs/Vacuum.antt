@@ -1,8 +1,7 @@
 -- Vacuum of a row: the chain as a list, a filter, what is left.
 use Rattle.std.specs.Prelude.{ℕ, not, List, [], ◌∷◌, ◌++◌, length, ltb}
-use Rattle.kinds.specs.declared.ReadAnswer.TheVariants.{None}
-use Rattle.kinds.specs.declared.Answer.{Answer}
-use Rattle.kinds.specs.declared.Answer.TheVariants.{Vacuumed}
+use Rattle.kinds.specs.ReadAnswer.{None}
+use Rattle.kinds.specs.Answer.{Answer, Vacuumed}
 use Rattle.words.specs.Sizes.{Sizes}
 use Rattle.rules.specs.Numbers.{result_full, damaged}
 use Rattle.words.specs.Lists.{keep, fold}

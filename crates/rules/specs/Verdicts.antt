@@ -2,8 +2,7 @@
 -- done where the verdict is fine, and refused with the verdict's number and value where it is not.
 use Rattle.std.specs.Prelude.{cond}
 use mathlib.Core.List.{List, [], ◌∷◌}
-use Rattle.kinds.specs.declared.Verdict.{Verdict}
-use Rattle.kinds.specs.declared.Verdict.TheVariants.{Fine, Refused}
+use Rattle.kinds.specs.Verdict.{Verdict, Fine, Refused}
 use Rattle.rules.specs.Outcome.{Test}
 
 -- the first test that fails

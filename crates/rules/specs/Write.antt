@@ -1,8 +1,7 @@
 -- Write (a key, or none to delete).
 use Rattle.std.specs.Prelude.{ℕ, not, ◌&&◌, cond, List, [], ◌∷◌, ◌++◌, get_or, set, eqb, ltb, leb}
 use Rattle.std.proofs.Math.Option.{Option, none, some}
-use Rattle.kinds.specs.declared.Answer.{Answer}
-use Rattle.kinds.specs.declared.Answer.TheVariants.{Wrote}
+use Rattle.kinds.specs.Answer.{Answer, Wrote}
 use Rattle.words.specs.Sizes.{Sizes, FREE, WRITES}
 use Rattle.rules.specs.Numbers.{row_locked, write_conflict, no_room, write_set_full, damaged}
 use Rattle.words.specs.Lists.{nonzero}

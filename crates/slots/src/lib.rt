@@ -2,12 +2,12 @@
 // slots, what lies beyond them counts for nothing.
 #![tactic(auto)]
 
-ghost use Rattle.std.specs.Prelude.{◌≡◌, [], ◌∷◌, min, max, ◌≤◌, ◌<◌, length, take};
+ghost use Rattle.std.specs.Prelude.{◌≡◌, ◌<◌, take};
 ghost use Rattle.words.specs.Sizes.{base};
 ghost use Rattle.words.specs.Sizes as words;
 ghost use Rattle.words.specs.Lists.{least, greatest};
-ghost use Rattle.rules.specs.Snapshot.{occupied, vacant, snap_low, snap_top, horizon_of};
-ghost use Rattle.slots.specs.OccupiedLaws.{top_over};
+ghost use Rattle.rules.specs.Snapshot.{occupied, snap_low, snap_top, horizon_of};
+ghost use Rattle.slots.specs.OccupiedLaws.{IsLowestEmpty, top_over};
 
 use words::{ID, LAST_ID, LOW, SLOTS, WIDTH};
 
@@ -18,25 +18,11 @@ pub struct Snapshot {
     pub top: u64,
 }
 
-// How many of the lent slots count.
-pub fn slots_in(n: usize) -> usize
-    ensures { result ≡ min base.slots n }
+// The lent slots that count.
+pub fn counted(slots: &[[u64; WIDTH]]) -> &[[u64; WIDTH]]
+    ensures { result.now ≡ take base.slots slots.now }
 {
-    if SLOTS < n { SLOTS } else { n }
-}
-
-// One slot's part in the least of a word: an empty slot has none.
-fn lowered(slot: &[u64; WIDTH], word: usize, ceiling: u64) -> u64
-    requires { word < base.width }
-    ensures { result ≡ least ceiling (occupied word (slot.now ∷ [])) }
-{
-    if slot[ID] == 0 {
-        return ceiling;
-    }
-    if slot[word] < ceiling {
-        return slot[word];
-    }
-    ceiling
+    &slots[..slots.len().min(SLOTS)]
 }
 
 // The least of a word over the occupied slots, and of a ceiling.
@@ -44,68 +30,43 @@ fn least_word(slots: &[[u64; WIDTH]], word: usize, ceiling: u64) -> u64
     requires { word < base.width }
     ensures { result ≡ least ceiling (occupied word (take base.slots slots.now)) }
 {
-    let n = slots_in(slots.len());
-    let mut least = ceiling;
-    let mut i = 0;
-    while i < n {
-        least = lowered(&slots[i], word, least);
-        i += 1;
-    }
-    least
+    counted(slots).iter().fold(
+        ceiling,
+        |least, slot| if slot[ID] == 0 {
+            least
+        } else {
+            least.min(slot[word])
+        },
+    )
 }
 
-// The lowest empty slot; SLOTS where none is.
-pub fn lowest_empty(slots: &[[u64; WIDTH]]) -> usize
-    ensures { result ≡ vacant (take base.slots slots.now) }
+// The lowest empty slot, where there is one.
+pub fn lowest_empty(slots: &[[u64; WIDTH]]) -> Option<usize>
+    ensures { IsLowestEmpty (take base.slots slots.now) result }
 {
-    let n = slots_in(slots.len());
-    let mut i = 0;
-    while i < n {
-        if slots[i][ID] == 0 {
-            return i;
-        }
-        i += 1;
-    }
-    i
+    counted(slots).iter().position(|slot| slot[ID] == 0)
 }
 
-// One slot's part in the greatest id: that of an empty slot is 0, and raises nothing.
-fn raised(slot: &[u64; WIDTH], floor: u64) -> u64
-    ensures { result ≡ max floor (greatest (occupied words.ID (slot.now ∷ []))) }
-{
-    if floor < slot[ID] {
-        return slot[ID];
-    }
-    floor
-}
-
+// The id of an empty slot is 0, and raises nothing.
 fn greatest_id(slots: &[[u64; WIDTH]]) -> u64
     ensures { result ≡ greatest (occupied words.ID (take base.slots slots.now)) }
 {
-    let n = slots_in(slots.len());
-    let mut top = 0;
-    let mut i = 0;
-    while i < n {
-        top = raised(&slots[i], top);
-        i += 1;
-    }
-    top
+    counted(slots)
+        .iter()
+        .map(|slot| slot[ID])
+        .max()
+        .unwrap_or(0)
 }
 
 // The snapshot's xmax: past every active id, and at least the clock. An id is never 0, so a greatest of 0 is no active slot.
 fn top_over(greatest: u64, clock: u64) -> u64
     ensures { result ≡ top_over greatest clock }
 {
-    if greatest < clock {
-        return clock;
-    }
     if greatest == 0 {
-        return clock;
+        clock
+    } else {
+        clock.max(greatest.saturating_add(1))
     }
-    if greatest == LAST_ID {
-        return greatest;
-    }
-    greatest + 1
 }
 
 pub fn snapshot_of(slots: &[[u64; WIDTH]], clock: u64) -> Snapshot
@@ -121,8 +82,5 @@ pub fn snapshot_of(slots: &[[u64; WIDTH]], clock: u64) -> Snapshot
 pub fn horizon(slots: &[[u64; WIDTH]], clock: u64, request: u64) -> u64
     ensures { result ≡ horizon_of request clock (take base.slots slots.now) }
 {
-    if request < clock {
-        return least_word(slots, LOW, request);
-    }
-    least_word(slots, LOW, clock)
+    least_word(slots, LOW, request.min(clock))
 }

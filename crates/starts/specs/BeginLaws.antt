@@ -1,8 +1,7 @@
 -- What is left of a begin once the store is tested, and its ways out.
 use Rattle.std.specs.Prelude.{ℕ, ◌+◌, ◌≤◌, ◌<◌, List, [], ◌∷◌, ◌≡◌, ◌≢◌, set, take, eqb, leb}
 use borrow.Author.Tests.{le-leb, lt-leb, eq-eqb, ne_eqb}
-use Rattle.kinds.specs.declared.Answer.{Answer}
-use Rattle.kinds.specs.declared.Answer.TheVariants.{Begun}
+use Rattle.kinds.specs.Answer.{Answer, Begun}
 use Rattle.words.specs.Sizes.{base, CLOCK, last_id}
 use Rattle.rules.specs.Numbers.{clock_spent, no_free_slot}
 use Rattle.kinds.specs.Versions.{tx}

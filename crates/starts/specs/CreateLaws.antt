@@ -1,7 +1,7 @@
 -- Creation, as its two ways out give it: refused where the sizes do not fit, and otherwise each arena as it is stored.
 use Rattle.std.specs.Prelude.{ℕ, true, false, List, [], ◌∷◌, ◌≡◌, replicate}
 use Rattle.std.proofs.lemmas.List.Edits.{sets}
-use Rattle.kinds.specs.declared.Answer.TheVariants.{Done}
+use Rattle.kinds.specs.Answer.{Done}
 use Rattle.words.specs.Sizes.{Sizes}
 use Rattle.rules.specs.Numbers.{bad_size}
 use Rattle.words.specs.Slots.{emptied}

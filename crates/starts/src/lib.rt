@@ -9,11 +9,12 @@ ghost use Rattle.rules.specs.Create.{create_out};
 ghost use Rattle.gate.specs.FineLaws.{StoreFine};
 ghost use Rattle.starts.specs.BeginLaws.{begin_rest};
 ghost use Rattle.rules.specs.Lent.{lent, mem_in, mem_out};
+ghost use Rattle.kinds.specs.Results.{done, begun};
 
 use fresh::{clear_rows, clear_slots, free_cells, start};
 use gate::fits;
-use kinds::Answer;
-use words::{BAD_SIZE, CELL_WORDS, CLOCK, CLOCK_SPENT, LAST_ID, NO_FREE_SLOT, SLOTS, TxId, WIDTH};
+use kinds::{Begun, Refusal};
+use words::{CELL_WORDS, CLOCK, LAST_ID, TxId, WIDTH};
 
 // A new store of n cells and r rows: an accepted creation starts a new history.
 pub fn create(
@@ -23,20 +24,17 @@ pub fn create(
     slots: &mut [[u64; WIDTH]],
     n: u64,
     r: u64,
-) -> Answer
-    ensures { out result [] (mem_out meta rows cells slots) ≡ create_out (mem_in meta rows cells slots) n r }
+) -> Result<(), Refusal>
+    ensures { out (done result) [] (mem_out meta rows cells slots) ≡ create_out (mem_in meta rows cells slots) n r }
 {
     if !fits(meta, rows, cells, slots, r, n) {
-        return Answer::Refused {
-            number: BAD_SIZE,
-            value: 0,
-        };
+        return Err(Refusal::BadSize);
     }
     start(meta, n, r);
     clear_rows(rows, r);
     free_cells(cells, n);
     clear_slots(slots);
-    Answer::Done
+    Ok(())
 }
 
 // A new transaction: the lowest empty slot, the clock's id, the snapshot. The store was tested.
@@ -45,28 +43,19 @@ pub fn begin(
     rows: &[u64],
     cells: &[[u64; CELL_WORDS]],
     slots: &mut [[u64; WIDTH]],
-) -> Answer
+) -> Result<Begun, Refusal>
     requires { StoreFine (mem {z = base} meta.old rows.now cells.now slots.old) }
-    ensures { out result [] (lent meta.new rows.now cells.now slots.new) ≡ begin_rest (lent meta.old rows.now cells.now slots.old) }
+    ensures { out (begun result) [] (lent meta.new rows.now cells.now slots.new) ≡ begin_rest (lent meta.old rows.now cells.now slots.old) }
 {
-    let s = slots::lowest_empty(slots);
-    if s >= SLOTS {
-        return Answer::Refused {
-            number: NO_FREE_SLOT,
-            value: 0,
-        };
-    }
+    let s = slots::lowest_empty(slots).ok_or(Refusal::NoFreeSlot)?;
     let id = meta[CLOCK];
     if id == LAST_ID {
-        return Answer::Refused {
-            number: CLOCK_SPENT,
-            value: 0,
-        };
+        return Err(Refusal::ClockSpent);
     }
     meta[CLOCK] = id + 1;
     opens::occupy(slots, s, id);
-    Answer::Begun {
+    Ok(Begun {
         slot: s as u64,
         id: TxId(id),
-    }
+    })
 }

@@ -2,10 +2,10 @@
 use Rattle.std.specs.Prelude.{ℕ, List, ◌≡◌, refl}
 use Rattle.std.proofs.Common.{sym, ap, ◌∙◌}
 use Rattle.std.proofs.lemmas.List.Edits.{sets}
-use Rattle.kinds.specs.declared.Answer.{Answer}
+use Rattle.kinds.specs.Answer.{Answer}
 use Rattle.words.specs.Sizes.{Sizes}
 use Rattle.rules.specs.Memory.{Mem}
-use Rattle.kinds.specs.declared.Verdict.{Verdict}
+use Rattle.kinds.specs.Verdict.{Verdict}
 use Rattle.rules.specs.Outcome.{Outcome, out, refuse, Test, guard}
 use Rattle.rules.specs.Verdicts.{verdict}
 use Rattle.rules.proofs.Verdicts.{guard_fine, guard_refused}

@@ -1,5 +1,9 @@
 // The public calls of the version store. Each takes any numbers and any lent memory, and one equation says what it answers and what
 // every lent word is afterwards.
+//
+// The four arenas are four parameters, here and in what the calls pass them on to, and not one struct: each call reads some of them alone,
+// as the C header's `const` says. A struct of four `&mut` for callers that lend them all was tried: the check does not cover a field that is
+// lent as `&` beside one lent as `&mut`.
 #![tactic(auto)]
 
 ghost use Rattle.std.specs.Prelude.{◌≡◌, [], length};
@@ -15,9 +19,10 @@ ghost use Rattle.rules.specs.Abort.{abort_out};
 ghost use Rattle.rules.specs.Vacuum.{vacuum_out};
 ghost use Rattle.rules.specs.Lookup.{lookup_out, lookup_all_out, front_of};
 ghost use Rattle.rules.specs.Lent.{lent, mem_in, mem_out};
+ghost use Rattle.kinds.specs.Results.{done, begun, seen, wrote, vacuumed, listed};
 
 use gate::{check_slot, check_store};
-use kinds::{Answer, ReadAnswer, Value, Verdict};
+use kinds::{Begun, Cell, Reading, Refusal, Vacuumed};
 use words::{CELL_WORDS, TxId, WIDTH};
 
 // A new store of n cells and r rows: an accepted creation starts a new history.
@@ -28,8 +33,8 @@ pub fn create(
     slots: &mut [[u64; WIDTH]],
     n: u64,
     r: u64,
-) -> Answer
-    ensures { out result [] (mem_out meta rows cells slots) ≡ create_out (mem_in meta rows cells slots) n r }
+) -> Result<(), Refusal>
+    ensures { out (done result) [] (mem_out meta rows cells slots) ≡ create_out (mem_in meta rows cells slots) n r }
 {
     starts::create(meta, rows, cells, slots, n, r)
 }
@@ -40,13 +45,11 @@ pub fn begin(
     rows: &[u64],
     cells: &[[u64; CELL_WORDS]],
     slots: &mut [[u64; WIDTH]],
-) -> Answer
-    ensures { out result [] (lent meta.new rows.now cells.now slots.new) ≡ begin_out (lent meta.old rows.now cells.now slots.old) }
+) -> Result<Begun, Refusal>
+    ensures { out (begun result) [] (lent meta.new rows.now cells.now slots.new) ≡ begin_out (lent meta.old rows.now cells.now slots.old) }
 {
-    match check_store(meta, rows, cells, slots) {
-        Verdict::Refused { number, value } => Answer::Refused { number, value },
-        Verdict::Fine => starts::begin(meta, rows, cells, slots),
-    }
+    check_store(meta, rows, cells, slots)?;
+    starts::begin(meta, rows, cells, slots)
 }
 
 // What the transaction sees in a row: its own write, else the first visible version. A version found is recorded.
@@ -58,13 +61,11 @@ pub fn read(
     slot: u64,
     id: TxId,
     row: u64,
-) -> ReadAnswer
-    ensures { out result [] (lent meta.now rows.now cells.now slots.new) ≡ read_out (lent meta.now rows.now cells.now slots.old) slot id.0 row }
+) -> Result<Reading, Refusal>
+    ensures { out (seen result) [] (lent meta.now rows.now cells.now slots.new) ≡ read_out (lent meta.now rows.now cells.now slots.old) slot id.0 row }
 {
-    match check_slot(meta, rows, cells, slots, slot, id) {
-        Verdict::Refused { number, value } => ReadAnswer::Refused { number, value },
-        Verdict::Fine => access::read(meta, rows, cells, slots, slot, id, row),
-    }
+    check_slot(meta, rows, cells, slots, slot, id)?;
+    access::read(meta, rows, cells, slots, slot, id, row)
 }
 
 // A key, or none to delete, written to a row: others see it once it is committed.
@@ -76,14 +77,12 @@ pub fn write(
     slot: u64,
     id: TxId,
     row: u64,
-    value: Value,
-) -> Answer
-    ensures { out result [] (lent meta.new rows.now cells.new slots.new) ≡ write_out (lent meta.old rows.now cells.old slots.old) slot id.0 row (given value) }
+    value: Option<u64>,
+) -> Result<Cell, Refusal>
+    ensures { out (wrote result) [] (lent meta.new rows.now cells.new slots.new) ≡ write_out (lent meta.old rows.now cells.old slots.old) slot id.0 row (given value) }
 {
-    match check_slot(meta, rows, cells, slots, slot, id) {
-        Verdict::Refused { number, value } => Answer::Refused { number, value },
-        Verdict::Fine => access::write(meta, rows, cells, slots, slot, id, row, value),
-    }
+    check_slot(meta, rows, cells, slots, slot, id)?;
+    access::write(meta, rows, cells, slots, slot, id, row, value)
 }
 
 // The transaction's writes published together, or a refusal that leaves it open. A transaction without writes just ends.
@@ -94,13 +93,11 @@ pub fn commit(
     slots: &mut [[u64; WIDTH]],
     slot: u64,
     id: TxId,
-) -> Answer
-    ensures { out result [] (lent meta.now rows.new cells.new slots.new) ≡ commit_out (lent meta.now rows.old cells.old slots.old) slot id.0 }
+) -> Result<(), Refusal>
+    ensures { out (done result) [] (lent meta.now rows.new cells.new slots.new) ≡ commit_out (lent meta.now rows.old cells.old slots.old) slot id.0 }
 {
-    match check_slot(meta, rows, cells, slots, slot, id) {
-        Verdict::Refused { number, value } => Answer::Refused { number, value },
-        Verdict::Fine => ends::commit(meta, rows, cells, slots, slot, id),
-    }
+    check_slot(meta, rows, cells, slots, slot, id)?;
+    ends::commit(meta, rows, cells, slots, slot, id)
 }
 
 // The transaction's writes dropped.
@@ -111,13 +108,11 @@ pub fn abort(
     slots: &mut [[u64; WIDTH]],
     slot: u64,
     id: TxId,
-) -> Answer
-    ensures { out result [] (lent meta.new rows.now cells.new slots.new) ≡ abort_out (lent meta.old rows.now cells.old slots.old) slot id.0 }
+) -> Result<(), Refusal>
+    ensures { out (done result) [] (lent meta.new rows.now cells.new slots.new) ≡ abort_out (lent meta.old rows.now cells.old slots.old) slot id.0 }
 {
-    match check_slot(meta, rows, cells, slots, slot, id) {
-        Verdict::Refused { number, value } => Answer::Refused { number, value },
-        Verdict::Fine => ends::abort(meta, rows, cells, slots, slot, id),
-    }
+    check_slot(meta, rows, cells, slots, slot, id)?;
+    ends::abort(meta, rows, cells, slots, slot, id)
 }
 
 // The row's versions that no open snapshot can reach any more, unlinked, reported newest first, and given back. A report is an entry of
@@ -130,16 +125,14 @@ pub fn vacuum(
     row: u64,
     request: u64,
     reports: &mut [[u64; 3]],
-) -> Answer
-    ensures outcome { out result (vacuum_out (lent meta.old rows.now cells.old slots.now) row request (length reports.old)).front (lent meta.new rows.now cells.new slots.now)
+) -> Result<Vacuumed, Refusal>
+    ensures outcome { out (vacuumed result) (vacuum_out (lent meta.old rows.now cells.old slots.now) row request (length reports.old)).front (lent meta.new rows.now cells.new slots.now)
         ≡ vacuum_out (lent meta.old rows.now cells.old slots.now) row request (length reports.old) }
     ensures reports_after { reports.new
         ≡ sets reports.old 0 (vacuum_out (lent meta.old rows.now cells.old slots.now) row request (length reports.old)).front }
 {
-    match check_store(meta, rows, cells, slots) {
-        Verdict::Refused { number, value } => Answer::Refused { number, value },
-        Verdict::Fine => vacuum::vacuum(meta, rows, cells, slots, row, request, reports),
-    }
+    check_store(meta, rows, cells, slots)?;
+    vacuum::vacuum(meta, rows, cells, slots, row, request, reports)
 }
 
 // The rows among the candidates and the own written rows that have the key, ascending, at the front of `results`.
@@ -153,18 +146,14 @@ pub fn lookup(
     key: u64,
     candidates: &[u64],
     results: &mut [u64],
-) -> Answer
-    ensures outcome { out result (lookup_out (lent meta.now rows.now cells.now slots.old) slot id.0 key candidates.now (length results.old)).front (lent meta.now rows.now cells.now slots.new)
+) -> Result<u64, Refusal>
+    ensures outcome { out (listed result) (lookup_out (lent meta.now rows.now cells.now slots.old) slot id.0 key candidates.now (length results.old)).front (lent meta.now rows.now cells.now slots.new)
         ≡ lookup_out (lent meta.now rows.now cells.now slots.old) slot id.0 key candidates.now (length results.old) }
     ensures results_after { results.new
         ≡ sets results.old 0 (lookup_out (lent meta.now rows.now cells.now slots.old) slot id.0 key candidates.now (length results.old)).front }
 {
-    match check_slot(meta, rows, cells, slots, slot, id) {
-        Verdict::Refused { number, value } => Answer::Refused { number, value },
-        Verdict::Fine => lookup::lookup(
-            meta, rows, cells, slots, slot, id, key, candidates, results,
-        ),
-    }
+    check_slot(meta, rows, cells, slots, slot, id)?;
+    lookup::lookup(meta, rows, cells, slots, slot, id, key, candidates, results)
 }
 
 // The same over all rows.
@@ -177,16 +166,14 @@ pub fn lookup_all(
     id: TxId,
     key: u64,
     results: &mut [u64],
-) -> Answer
-    ensures outcome { out result (lookup_all_out (lent meta.now rows.now cells.now slots.old) slot id.0 key (length results.old)).front (lent meta.now rows.now cells.now slots.new)
+) -> Result<u64, Refusal>
+    ensures outcome { out (listed result) (lookup_all_out (lent meta.now rows.now cells.now slots.old) slot id.0 key (length results.old)).front (lent meta.now rows.now cells.now slots.new)
         ≡ lookup_all_out (lent meta.now rows.now cells.now slots.old) slot id.0 key (length results.old) }
     ensures results_after { results.new
         ≡ sets results.old 0 (lookup_all_out (lent meta.now rows.now cells.now slots.old) slot id.0 key (length results.old)).front }
 {
-    match check_slot(meta, rows, cells, slots, slot, id) {
-        Verdict::Refused { number, value } => Answer::Refused { number, value },
-        Verdict::Fine => lookup::lookup_all(meta, rows, cells, slots, slot, id, key, results),
-    }
+    check_slot(meta, rows, cells, slots, slot, id)?;
+    lookup::lookup_all(meta, rows, cells, slots, slot, id, key, results)
 }
 
 // The filled front of a result buffer, as a part of it. A count past the end gives the whole buffer.

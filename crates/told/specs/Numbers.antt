@@ -2,11 +2,12 @@
 -- number for "no". Each further number is an out-parameter of its own, and is always written: with 0 where the answer has no such number.
 use Rattle.std.specs.Prelude.{ℕ, List, [], cond, eqb, get_or}
 use Rattle.std.proofs.Math.Option.{Option, none, some}
-use Rattle.kinds.specs.declared.ReadAnswer.{ReadAnswer}
-use Rattle.kinds.specs.declared.ReadAnswer.TheVariants.{None, Empty, Key}
-use Rattle.kinds.specs.declared.Answer.{Answer}
-use Rattle.kinds.specs.declared.Answer.TheVariants.{Done, Begun, Wrote, Vacuumed, Listed}
+use Rattle.kinds.specs.ReadAnswer.{ReadAnswer, None, Empty, Key}
+use Rattle.kinds.specs.Answer.{Answer, Done, Begun, Wrote, Vacuumed, Listed}
 use Rattle.rules.specs.Numbers.{read_values, values_of}
+use Rattle.std.specs.Prelude.{Result, Ok, Err}
+use Rattle.kinds.specs.declared.refusals.Refusal.{Refusal}
+use Rattle.kinds.specs.Results as results
 
 -- the values that an accepted call answers; none of a refusal
 abbrev pub answered : Answer → List ℕ
@@ -77,6 +78,16 @@ read_about None = 0
 read_about Empty = 0
 read_about (Key k) = 0
 read_about (ReadAnswer.Refused n x) = x
+
+-- ---- the same of what the code answers, whatever an accepted call answers
+
+abbrev pub number_in : {A : Type 0} → Result A Refusal → ℕ
+number_in (Ok x) = 0
+number_in (Err e) = results.number e
+
+abbrev pub about_in : {A : Type 0} → Result A Refusal → ℕ
+about_in (Ok x) = 0
+about_in (Err e) = results.about e
 
 -- ---- what a host gives
 

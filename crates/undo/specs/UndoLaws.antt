@@ -1,16 +1,15 @@
--- Abort, entry by entry: what is left to unlock and to give back, and what a fine judgement gives the changes. Giving back looks at the
--- saved words and the cells alone, so what is promised of those two arenas holds of a whole memory.
-use Rattle.std.specs.Prelude.{ℕ, ◌+◌, ◌-◌, ◌<◌, ◌≤◌, List, [], ◌∷◌, ◌≡◌, refl, length, get_or}
+-- Abort: what a fine judgement gives the changes. Giving back looks at the saved words and the cells alone, so what is promised of those two
+-- arenas holds of a whole memory.
+use Rattle.std.specs.Prelude.{ℕ, ◌≤◌, List, [], ◌∷◌, ◌≡◌, refl, length}
 use Rattle.std.proofs.Common.{sym, ap, ◌∙◌}
-use Rattle.kinds.specs.declared.Verdict.TheVariants.{Fine}
+use Rattle.kinds.specs.Verdict.{Fine}
 use Rattle.words.specs.Sizes.{Sizes, base}
 use Rattle.words.specs.Lists.{fold}
-use Rattle.words.specs.Slots.{Write, write, threes}
+use Rattle.words.specs.Slots.{Write}
 use Rattle.rules.specs.Memory.{Mem, mem, size_n}
 use Rattle.rules.specs.Outcome.{each}
 use Rattle.rules.specs.Verdicts.{verdict}
-use Rattle.words.specs.WordLaws.{threes_step, threes_done}
-use Rattle.rules.specs.Abort.{unlock_base, news, give_back, abort_tests}
+use Rattle.rules.specs.Abort.{news, give_back, abort_tests}
 use Rattle.rules.specs.Theory.Bridge.{BasesIn, AllCells}
 use Rattle.rules.specs.Theory.CellLaws.{HasCell}
 use Rattle.rules.proofs.Theory.AbortCall.{abort_entries_in}
@@ -32,31 +31,15 @@ pub give_whole : (l : List ℕ) (a a' r : List ℕ) (c c' s : List (List ℕ))
     → lent a' c' ≡ fold give_back l (lent a c) → ◌≡◌ {A = Mem base} (mem a' r c' s) (fold give_back l (mem a r c s))
 give_whole l a a' r c c' s e = ap (λ (k : Mem base). mem k.meta r k.cells s) e ∙ sym (give_parts l a r c s)
 
--- ---- a slot's entries, one after the other
+-- ---- one cell after the other
 
-module _ (t : List ℕ) (a k : ℕ) where
-  pub unlock_none : (id : ℕ) (cs : List (List ℕ)) → k ≤ 0 → fold (unlock_base id) (threes write t a k) cs ≡ cs
-  unfolding fold
-  unlock_none id cs h = rw (threes_done write t a k h)
+pub give_none : (m : Mem base) → fold give_back [] m ≡ m
+unfolding fold
+give_none m = refl
 
-  -- of an entry, the base alone counts
-  pub unlock_step : (id : ℕ) (cs : List (List ℕ)) → 0 < k → fold (unlock_base id) (threes write t a k) cs ≡ fold (unlock_base id) (threes write t (a + 3) (k - 1)) (unlock_base id (write 0 (get_or t (a + 1) 0) 0) cs)
-  unfolding fold unlock_base
-  unlock_step id cs h = rw (threes_step write t a k h)
-
-  pub bases_left : (cs : List (List ℕ)) → 0 < k → BasesIn cs (threes write t a k) → (get_or t (a + 1) 0 ≤ length cs) × BasesIn cs (threes write t (a + 3) (k - 1))
-  bases_left cs h p = rw (threes_step write t a k h) at p
-
-  pub give_none : (m : Mem base) → k ≤ 0 → fold give_back (news (threes write t a k)) m ≡ m
-  unfolding fold
-  give_none m h = rw (threes_done write t a k h)
-
-  pub give_step : (m : Mem base) → 0 < k → fold give_back (news (threes write t a k)) m ≡ fold give_back (news (threes write t (a + 3) (k - 1))) (give_back (get_or t (a + 2) 0) m)
-  unfolding fold
-  give_step m h = rw (threes_step write t a k h)
-
-  pub cells_left : (cs : List (List ℕ)) → 0 < k → AllCells cs (news (threes write t a k)) → HasCell cs (get_or t (a + 2) 0) × AllCells cs (news (threes write t (a + 3) (k - 1)))
-  cells_left cs h p = rw (threes_step write t a k h) at p
+pub give_step : (c : ℕ) (l : List ℕ) (m : Mem base) → fold give_back (c ∷ l) m ≡ fold give_back l (give_back c m)
+unfolding fold
+give_step c l m = refl
 
 -- what is there stays there where the length does
 pub still_cell : (cs ds : List (List ℕ)) (c : ℕ) → length ds ≡ length cs → HasCell cs c → HasCell ds c

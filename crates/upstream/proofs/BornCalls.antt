@@ -8,8 +8,8 @@ use Rattle.std.proofs.Common.{◌∙◌, subst, arith, le_of_suc-le-suc, length-
 use Rattle.std.proofs.Math.ListN.{length}
 use Rattle.std.proofs.Math.Seq.{get_or-set_same, get_or-set_other}
 use Rattle.std.proofs.lemmas.Bool.{eqb-false}
-use Rattle.kinds.specs.declared.Answer.{Answer}
-use Rattle.kinds.specs.declared.ReadAnswer.{ReadAnswer}
+use Rattle.kinds.specs.Answer.{Answer}
+use Rattle.kinds.specs.ReadAnswer.{ReadAnswer}
 use Rattle.words.specs.Sizes.{Sizes, last_id, READS, WRITES}
 use Rattle.rules.specs.Numbers.{clock_spent, no_free_slot, damaged}
 use Rattle.words.specs.Lists.{fold, keep, least}

@@ -5,8 +5,7 @@ use mathlib.Core.List.{List, [], ◌∷◌}
 use Rattle.std.proofs.Common.{⊎_elim, ap, subst, arith}
 use Rattle.std.proofs.Math.Path.{◌≡◌}
 use Rattle.std.proofs.lemmas.Bool.{not-false}
-use Rattle.kinds.specs.declared.Answer.{Answer}
-use Rattle.kinds.specs.declared.Answer.TheVariants.{Done}
+use Rattle.kinds.specs.Answer.{Answer, Done}
 use Rattle.words.specs.Sizes.{Sizes, Roomy, last_id}
 use Rattle.rules.specs.Numbers.{bad_size}
 use Rattle.rules.specs.Memory.{Mem, clock}

@@ -2,10 +2,8 @@
 -- meets them. And the smallest examples, computed, where our calls and upstream's bodies part.
 use Rattle.std.specs.Prelude.{◌<◌, true, List, [], ◌∷◌, ◌≡◌, refl}
 use Rattle.std.proofs.Common.{ap, arith}
-use Rattle.kinds.specs.declared.Answer.{Answer}
-use Rattle.kinds.specs.declared.Answer.TheVariants.{Done}
-use Rattle.kinds.specs.declared.ReadAnswer.{ReadAnswer}
-use Rattle.kinds.specs.declared.ReadAnswer.TheVariants.{Key}
+use Rattle.kinds.specs.Answer.{Answer, Done}
+use Rattle.kinds.specs.ReadAnswer.{ReadAnswer, Key}
 use Rattle.words.specs.Sizes.{last_id}
 use Rattle.words.specs.Lists.{last, fold, has, keep, first, least, greatest, from}
 use Rattle.kinds.specs.Versions.{version_of, words_of, cell_at, put_cell, version_at, version, locked_for, locked_by_other}

@@ -5,8 +5,7 @@ use Rattle.std.specs.Prelude.{cond, ◌≢◌, ◌≡◌, eqb, ltb, get_or, set,
 use mathlib.Core.List.{List, [], ◌∷◌, ◌++◌}
 use Rattle.std.proofs.Math.Path.{refl, sym, ap}
 use Rattle.std.proofs.Common.{◌∙◌, arith, length-set, get_or-set_same, get_or-set_other, take-suc, eq-eqb, ne_eqb, ltb-true, ltb-false, le-ltb}
-use Rattle.kinds.specs.declared.Answer.{Answer}
-use Rattle.kinds.specs.declared.Answer.TheVariants.{Done}
+use Rattle.kinds.specs.Answer.{Answer, Done}
 use Rattle.words.specs.Sizes.{Sizes, Roomy, last_id, ID, LOW}
 use Rattle.words.specs.Lists.{least, greatest}
 use Rattle.words.specs.Slots.{slot_of}

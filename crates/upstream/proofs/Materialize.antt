@@ -7,7 +7,7 @@ use Rattle.std.proofs.Common.{append-nil, sym, ◌∙◌, subst, arith, length-a
 use Rattle.std.proofs.Math.Option.{Option, none, some}
 use Rattle.std.proofs.Math.Path.{ap}
 use Rattle.std.proofs.Math.ListN.{length}
-use Rattle.kinds.specs.declared.Answer.{Answer}
+use Rattle.kinds.specs.Answer.{Answer}
 use Rattle.words.specs.Sizes.{Sizes, Roomy}
 use Rattle.words.specs.Lists.{has, keep, from}
 use Rattle.words.specs.Slots.{Slot, Rec, add_recs, slot_of}

@@ -7,7 +7,7 @@ use Rattle.std.proofs.Math.Option.{Option, some, none}
 use Rattle.std.proofs.Common.{sym, ap, ◌∙◌, inl, inr, ⊎_elim, arith, eq-eqb, ne_eqb, lt-ltb, le-leb}
 use Rattle.std.proofs.Math.Path.{subst}
 use Rattle.kinds.specs.declared.Version.{Version}
-use Rattle.kinds.specs.declared.Answer.{Answer}
+use Rattle.kinds.specs.Answer.{Answer}
 use Rattle.words.specs.Sizes.{Sizes}
 use Rattle.words.specs.Lists.{first, has}
 use Rattle.kinds.specs.Versions.{version, new_version, with_xmax, with_next, unlocked, version_of, version_at}

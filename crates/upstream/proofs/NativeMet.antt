@@ -2,10 +2,8 @@
 use Rattle.std.specs.Prelude.{ℕ, ◌<◌, ◌≤◌, true, [], ◌∷◌, ◌≡◌, refl, ◌≢◌, length}
 use Rattle.std.proofs.Math.Option.{some}
 use Rattle.std.proofs.Common.{sym, ap, ◌∙◌, subst, inl, inr, arith}
-use Rattle.kinds.specs.declared.Answer.{Answer}
-use Rattle.kinds.specs.declared.Answer.TheVariants.{Wrote, Vacuumed}
-use Rattle.kinds.specs.declared.ReadAnswer.{ReadAnswer}
-use Rattle.kinds.specs.declared.ReadAnswer.TheVariants.{Key}
+use Rattle.kinds.specs.Answer.{Answer, Wrote, Vacuumed}
+use Rattle.kinds.specs.ReadAnswer.{ReadAnswer, Key}
 use Rattle.words.specs.Sizes.{base, last_id}
 use Rattle.kinds.specs.Versions.{at, empty_version, version_at}
 use Rattle.words.specs.Slots.{Slot, rec, add_recs}

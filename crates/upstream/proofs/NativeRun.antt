@@ -4,8 +4,8 @@
 use Rattle.std.specs.Prelude.{[], ◌∷◌, ◌≡◌, refl}
 use Rattle.std.proofs.Math.Option.{none}
 use Rattle.std.proofs.Common.{inl, arith}
-use Rattle.kinds.specs.declared.Answer.TheVariants.{Vacuumed}
-use Rattle.kinds.specs.declared.ReadAnswer.TheVariants.{Key, Empty, None}
+use Rattle.kinds.specs.Answer.{Vacuumed}
+use Rattle.kinds.specs.ReadAnswer.{Key, Empty, None}
 use Rattle.words.specs.Sizes.{last_id}
 use Rattle.words.specs.Lists.{last, fold, has, keep, first, least, greatest, from}
 use Rattle.kinds.specs.Versions.{version, empty_version, version_of, words_of, cell_at, put_cell}

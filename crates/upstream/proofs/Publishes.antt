@@ -4,7 +4,7 @@
 use Rattle.std.specs.Prelude.{ℕ, List, [], ◌∷◌, ◌≡◌, refl, ◌≢◌, ◌⊎◌, get_or}
 use Rattle.std.proofs.Common.{sym, ap, ◌∙◌, subst, inl, inr, ⊎_elim, arith, eq-eqb, ne_eqb}
 use Rattle.kinds.specs.declared.Version.{Version}
-use Rattle.kinds.specs.declared.Answer.{Answer}
+use Rattle.kinds.specs.Answer.{Answer}
 use Rattle.words.specs.Sizes.{Sizes, ROWS, CELLS}
 use Rattle.kinds.specs.Versions.{with_xmax, with_next, unlocked, version_of, version_at}
 use Rattle.words.specs.Slots.{Write}

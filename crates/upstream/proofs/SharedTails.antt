@@ -1,8 +1,8 @@
 -- Gap 5: 000's `image_valid` lets two rows share a tail, so that freeing for one row can hurt the other. No reachable store has one.
 use Rattle.std.specs.Prelude.{ℕ, zero, suc, ◌<◌, true, ◌≡◌, refl, ◌≢◌}
 use Rattle.std.proofs.Common.{inl, inr, arith}
-use Rattle.kinds.specs.declared.Answer.TheVariants.{Vacuumed}
-use Rattle.kinds.specs.declared.ReadAnswer.TheVariants.{Key}
+use Rattle.kinds.specs.Answer.{Vacuumed}
+use Rattle.kinds.specs.ReadAnswer.{Key}
 use Rattle.words.specs.Sizes.{Sizes, Roomy, last_id}
 use Rattle.words.specs.Lists.{keep, first, fold, least}
 use Rattle.kinds.specs.Versions.{empty_version, words_of, version_of, cell_at, version_at, put_cell}

@@ -7,7 +7,7 @@ use Rattle.std.proofs.Math.Path.{sym}
 use Rattle.std.proofs.Common.{ap, ◌∙◌, subst, inl, inr, ⊎_elim, arith}
 use Rattle.words.specs.declared.TxId.{TxId}
 use Rattle.kinds.specs.declared.Version.{Version}
-use Rattle.kinds.specs.declared.Answer.{Answer}
+use Rattle.kinds.specs.Answer.{Answer}
 use Rattle.words.specs.Sizes.{Sizes, ROWS, CELLS, FREE}
 use Rattle.words.specs.Lists.{nonzero, first}
 use Rattle.kinds.specs.Versions.{at, value_of, with_next, version_of, cell_at, version_at}

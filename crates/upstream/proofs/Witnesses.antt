@@ -1,8 +1,8 @@
 -- 000's three witnesses, with their numbers, on hand-made memory and by our calls: a write published over a base, a vacuum that keeps the
 -- anchor and a later one that takes it, a locked version that survives.
 use Rattle.std.specs.Prelude.{[], ◌∷◌, ◌≡◌, refl}
-use Rattle.kinds.specs.declared.Answer.TheVariants.{Done, Vacuumed}
-use Rattle.kinds.specs.declared.ReadAnswer.TheVariants.{Key}
+use Rattle.kinds.specs.Answer.{Done, Vacuumed}
+use Rattle.kinds.specs.ReadAnswer.{Key}
 use Rattle.words.specs.Lists.{has, keep, first, fold, least}
 use Rattle.kinds.specs.Versions.{version, version_of, words_of, cell_at, version_at, put_cell}
 use Rattle.words.specs.Slots.{words, threes, slot_of}

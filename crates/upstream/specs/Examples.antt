@@ -2,8 +2,8 @@
 -- meets them. And the smallest examples, computed, where our calls and upstream's bodies part.
 use Rattle.std.specs.Prelude.{List, [], ◌∷◌, replicate}
 use Rattle.std.proofs.Math.Option.{some}
-use Rattle.kinds.specs.declared.Answer.TheVariants.{Begun, Wrote, Done}
-use Rattle.kinds.specs.declared.ReadAnswer.TheVariants.{Key}
+use Rattle.kinds.specs.Answer.{Begun, Wrote, Done}
+use Rattle.kinds.specs.ReadAnswer.{Key}
 use Rattle.words.specs.Sizes.{base}
 use Rattle.kinds.specs.Versions.{at, tx}
 use Rattle.rules.specs.Memory.{Mem, mem}

@@ -2,7 +2,7 @@
 -- over candidates, and the lookup over all rows. The predicate is equality with a key, 000's own `EqualsKey`.
 use Prim.Native.Nat.{ℕ}
 use Rattle.std.specs.Prelude.{◌≡◌}
-use Rattle.kinds.specs.declared.Answer.{Answer}
+use Rattle.kinds.specs.Answer.{Answer}
 
 -- an answer that is no refusal
 abbrev pub Granted : Answer → Type 0

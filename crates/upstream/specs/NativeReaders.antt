@@ -1,8 +1,8 @@
 -- A reachable store in which 000's vacuum contract speaks of one open reader and not of the other: the store of the run in which the reader
 -- (slot 0) has no writes and the writer (slot 1) has prepared one. Vacuum removes a version there, and ours speaks of both.
 use Rattle.std.specs.Prelude.{List, [], ◌∷◌, ◌≡◌}
-use Rattle.kinds.specs.declared.Answer.TheVariants.{Vacuumed}
-use Rattle.kinds.specs.declared.ReadAnswer.TheVariants.{Key}
+use Rattle.kinds.specs.Answer.{Vacuumed}
+use Rattle.kinds.specs.ReadAnswer.{Key}
 use Rattle.words.specs.Sizes.{last_id}
 use Rattle.rules.specs.Memory.{head_at, slot_at}
 use Rattle.rules.specs.Create.{create_out}

@@ -3,8 +3,8 @@
 -- takes the anchor. The layout is tail 1, anchor 2, fresh 3; the birth is 2, the writer 4, the reuser 5.
 use Rattle.std.specs.Prelude.{List, [], ◌∷◌, ◌≡◌, replicate}
 use Rattle.std.proofs.Math.Option.{some, none}
-use Rattle.kinds.specs.declared.Answer.TheVariants.{Done, Begun, Wrote, Vacuumed, Refused}
-use Rattle.kinds.specs.declared.ReadAnswer.TheVariants.{Key}
+use Rattle.kinds.specs.Answer.{Done, Begun, Wrote, Vacuumed, Refused}
+use Rattle.kinds.specs.ReadAnswer.{Key}
 use Rattle.words.specs.Sizes.{base, last_id}
 use Rattle.kinds.specs.Versions.{at, tx, version, new_version, empty_version, version_at, link_at}
 use Rattle.words.specs.Slots.{words, threes, slot_of, push, opened}

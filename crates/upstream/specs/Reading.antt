@@ -3,7 +3,7 @@
 use Prim.Native.Nat.{ℕ}
 use Rattle.std.proofs.Math.Option.{Option, none, some}
 use Rattle.std.proofs.Math.Path.{◌≡◌}
-use Rattle.kinds.specs.declared.ReadAnswer.{ReadAnswer}
+use Rattle.kinds.specs.ReadAnswer.{ReadAnswer}
 use Rattle.words.specs.Slots.{Write}
 
 -- ---- the own last write

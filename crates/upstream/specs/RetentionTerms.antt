@@ -3,8 +3,7 @@
 use Rattle.std.specs.Prelude.{ℕ, ◌<◌, ◌≤◌, Bool, true, cond, List, [], ◌∷◌, ◌≢◌, ◌↔◌, ◌≡◌, get_or}
 use Rattle.std.proofs.Math.Option.{Option, none, some}
 use Rattle.kinds.specs.declared.Version.{Version}
-use Rattle.kinds.specs.declared.ReadAnswer.{ReadAnswer}
-use Rattle.kinds.specs.declared.ReadAnswer.TheVariants.{None, Empty, Key}
+use Rattle.kinds.specs.ReadAnswer.{ReadAnswer, None, Empty, Key}
 use Rattle.words.specs.Sizes.{Sizes}
 use Rattle.words.specs.Lists.{nonzero, first}
 use Rattle.kinds.specs.Versions.{empty_version}

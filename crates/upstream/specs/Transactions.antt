@@ -2,8 +2,7 @@
 use Rattle.std.specs.Prelude.{ℕ, ◌<◌, ◌≤◌, true, cond, List, [], ◌∷◌, ◌≡◌, eqb}
 use Rattle.std.proofs.Math.Option.{Option, none, some}
 use Rattle.kinds.specs.declared.Version.{Version}
-use Rattle.kinds.specs.declared.ReadAnswer.{ReadAnswer}
-use Rattle.kinds.specs.declared.ReadAnswer.TheVariants.{None, Empty, Key}
+use Rattle.kinds.specs.ReadAnswer.{ReadAnswer, None, Empty, Key}
 use Rattle.words.specs.Lists.{nonzero, or_else}
 use Rattle.words.specs.Slots.{Slot, Write}
 use Rattle.rules.specs.Reachable.{All}

@@ -1,1 +1,2 @@
 pub mod CommitLaws
+pub mod Loops

@@ -1,6 +1,6 @@
 -- A commit's tests as a whole: records, then bases, then new cells.
 use Rattle.std.specs.Prelude.{List}
-use Rattle.kinds.specs.declared.Verdict.{Verdict}
+use Rattle.kinds.specs.Verdict.{Verdict}
 use Rattle.words.specs.Sizes.{Sizes}
 use Rattle.words.specs.Slots.{Slot, Write}
 use Rattle.rules.specs.Memory.{Mem}

@@ -2,8 +2,8 @@
 -- function of the arguments and the memory before, through o, which is what the rules say of the call.
 use Rattle.std.specs.Prelude.{ℕ, List, ◌≡◌}
 use Rattle.std.proofs.lemmas.List.Edits.{sets}
-use Rattle.kinds.specs.declared.ReadAnswer.{ReadAnswer}
-use Rattle.kinds.specs.declared.Answer.{Answer}
+use Rattle.kinds.specs.ReadAnswer.{ReadAnswer}
+use Rattle.kinds.specs.Answer.{Answer}
 use Rattle.words.specs.Sizes.{base}
 use Rattle.rules.specs.Numbers.{read_number, number_of}
 use Rattle.rules.specs.Memory.{Mem}

@@ -21,6 +21,7 @@ ghost use Rattle.vizzaluna.specs.Seen.{Made, Began, Read, Wrote, Ended, Swept, F
 ghost use Rattle.vizzaluna.specs.Constants.{constants};
 
 use constants::{CONSTANTS, COUNT, REPORT_WORDS};
+use kinds::Reading;
 use records::Slot;
 use told::number_of;
 use words::{CELL_WORDS, TxId, WIDTH};
@@ -37,7 +38,7 @@ pub extern "C" fn vizzaluna_create(
 ) -> u64
     ensures { Made (create_out (mem_in meta rows cells slots) n r) result (mem_out meta rows cells slots) }
 {
-    number_of(store::create(meta, rows, cells, slots, n, r))
+    number_of(&store::create(meta, rows, cells, slots, n, r))
 }
 
 // A new transaction: its slot and its id.
@@ -54,9 +55,11 @@ pub extern "C" fn vizzaluna_begin(
         result slot.new id.new (lent meta.new rows.now cells.now slots.new) }
 {
     let answer = store::begin(meta, rows, cells, slots);
-    *slot = told::first(answer);
-    *id = told::begun_id(answer);
-    number_of(answer)
+    (*slot, *id) = match answer {
+        Ok(begun) => (begun.slot, begun.id.0),
+        Err(_) => (0, 0),
+    };
+    number_of(&answer)
 }
 
 // What the transaction sees in a row: which of the three, and the key.
@@ -77,10 +80,11 @@ pub extern "C" fn vizzaluna_read(
         result kind.new key.new about.new (lent meta.now rows.now cells.now slots.new) }
 {
     let answer = store::read(meta, rows, cells, slots, slot, TxId(id), row);
-    *kind = told::kind(answer);
-    *key = told::read_key(answer);
-    *about = told::read_about(answer);
-    told::read_number(answer)
+    let found = answer.unwrap_or(Reading::None);
+    *kind = told::kind(found);
+    *key = told::read_key(found);
+    *about = told::about(&answer);
+    number_of(&answer)
 }
 
 // A key written to a row, or none where `keyed` is 0: the cell.
@@ -103,9 +107,9 @@ pub extern "C" fn vizzaluna_write(
 {
     let value = told::value(keyed, key);
     let answer = store::write(meta, rows, cells, slots, slot, TxId(id), row, value);
-    *cell = told::first(answer);
-    *about = told::about(answer);
-    number_of(answer)
+    *cell = answer.map_or(0, |cell| cell.0);
+    *about = told::about(&answer);
+    number_of(&answer)
 }
 
 // The transaction's writes published together.
@@ -123,8 +127,8 @@ pub extern "C" fn vizzaluna_commit(
         result about.new (lent meta.now rows.new cells.new slots.new) }
 {
     let answer = store::commit(meta, rows, cells, slots, slot, TxId(id));
-    *about = told::about(answer);
-    number_of(answer)
+    *about = told::about(&answer);
+    number_of(&answer)
 }
 
 // The transaction's writes dropped.
@@ -142,8 +146,8 @@ pub extern "C" fn vizzaluna_abort(
         result about.new (lent meta.new rows.now cells.new slots.new) }
 {
     let answer = store::abort(meta, rows, cells, slots, slot, TxId(id));
-    *about = told::about(answer);
-    number_of(answer)
+    *about = told::about(&answer);
+    number_of(&answer)
 }
 
 // The row's versions that no open snapshot can reach, given back and reported: their count, and the live value.
@@ -165,12 +169,15 @@ pub extern "C" fn vizzaluna_vacuum(
         result count.new kind.new key.new about.new (lent meta.new rows.now cells.new slots.now) reports.old reports.new }
 {
     let answer = store::vacuum(meta, rows, cells, slots, row, request, reports);
-    let live = told::live(answer);
-    *count = told::first(answer);
+    let (gone, live) = match answer {
+        Ok(done) => (done.count, done.live),
+        Err(_) => (0, Reading::None),
+    };
+    *count = gone;
     *kind = told::kind(live);
     *key = told::read_key(live);
-    *about = told::about(answer);
-    number_of(answer)
+    *about = told::about(&answer);
+    number_of(&answer)
 }
 
 // The rows among the candidates and the own written rows that have the key: their count, and the rows at the front of `results`.
@@ -195,9 +202,9 @@ pub extern "C" fn vizzaluna_lookup(
     let answer = store::lookup(
         meta, rows, cells, slots, slot, who, key, candidates, results,
     );
-    *count = told::first(answer);
-    *about = told::about(answer);
-    number_of(answer)
+    *count = answer.unwrap_or(0);
+    *about = told::about(&answer);
+    number_of(&answer)
 }
 
 // The same over all rows.
@@ -218,9 +225,9 @@ pub extern "C" fn vizzaluna_lookup_all(
         result count.new about.new (lent meta.now rows.now cells.now slots.new) results.old results.new }
 {
     let answer = store::lookup_all(meta, rows, cells, slots, slot, TxId(id), key, results);
-    *count = told::first(answer);
-    *about = told::about(answer);
-    number_of(answer)
+    *count = answer.unwrap_or(0);
+    *about = told::about(&answer);
+    number_of(&answer)
 }
 
 // What this library's constants are, one by one in the order of its header; 0 past the last.

@@ -86,7 +86,7 @@ pub fn size_table() -> Sizes
     }
 }
 
-// ---- paper 01's numbers for "no", as the rules name them
+// ---- paper 01's numbers for "no", as the rules name them and the C header has them; in calls they are the enum `kinds::Refusal`
 
 pub const BAD_SIZE: u64 = 1;
 
@@ -121,29 +121,20 @@ pub const DAMAGED: u64 = 15;
 // ---- ids
 
 // A transaction's id.
-#[derive(Clone, Copy)]
+#[derive(Clone, Copy, PartialEq, Eq)]
 pub struct TxId(pub u64);
 
-// A count above its limit reads as the limit.
-pub fn at_most(x: u64, most: u64) -> u64
-    ensures { result ≡ min x most }
+// The slot's active ids: as many as their count says, and at most SLOTS.
+pub fn actives(slot: &[u64; WIDTH]) -> &[u64]
+    ensures { result.now ≡ (slot_of base slot.now).active }
 {
-    if x < most { x } else { most }
+    let count = slot[ACTIVE].min(SLOTS as u64) as usize;
+    &slot[ACTIVE + 1..][..count]
 }
 
 // Is x among the slot's active ids?
 pub fn is_active(slot: &[u64; WIDTH], x: TxId) -> bool
     ensures { result ≡ has x.0 (slot_of base slot.now).active }
 {
-    let id = x.0;
-    let mut left = at_most(slot[ACTIVE], SLOTS as u64);
-    let mut a = ACTIVE + 1;
-    while left > 0 {
-        if slot[a] == id {
-            return true;
-        }
-        a += 1;
-        left -= 1;
-    }
-    false
+    actives(slot).contains(&x.0)
 }

@@ -1,7 +1,7 @@
 -- The tests of a row's head, one by one: what a write knows where it stops and where it goes on.
 use Rattle.std.specs.Prelude.{ℕ, ◌≤◌, ◌<◌, true, false, ◌≡◌, ◌≢◌}
 use borrow.Author.Tests.{eq-eqb, ne_eqb, lt-ltb, le-ltb}
-use Rattle.kinds.specs.declared.Verdict.TheVariants.{Fine, Refused}
+use Rattle.kinds.specs.Verdict.{Fine, Refused}
 use Rattle.words.specs.Sizes.{Sizes}
 use Rattle.rules.specs.Numbers.{row_locked, write_conflict, damaged}
 use Rattle.kinds.specs.Versions.{version_at, locked_by_other}

@@ -8,17 +8,16 @@ ghost use Rattle.kinds.specs.Versions.{given, new_version, with_value, version_a
 ghost use Rattle.words.specs.Slots.{slot_of, write, add_write};
 ghost use Rattle.rules.specs.Memory.{mem};
 ghost use Rattle.rules.specs.Write.{lock_base, head_tests};
+ghost use Rattle.kinds.specs.Results.{judged};
 ghost use Rattle.rules.specs.Verdicts.{verdict};
 ghost use Rattle.rules.specs.Theory.CellLaws.{HasCell};
 ghost use Rattle.writes.specs.Room.{room_tests};
 
-use kinds::{Cell, Value, Verdict, Version};
-use words::{
-    CELL_WORDS, CELLS, DAMAGED, FREE, MOST_WRITES, NO_ROOM, ROW_LOCKED, TxId, WIDTH,
-    WRITE_CONFLICT, WRITE_SET_FULL, WRITES,
-};
+use kinds::{Cell, Refusal, Version};
+use words::{CELL_WORDS, CELLS, FREE, MOST_WRITES, TxId, WIDTH, WRITES};
 
 // The row has no own entry: may its head be the base of one?
+#[tactic(auto, unfolding(rules::specs::Verdicts::verdict, rules::specs::Write::head_tests))]
 pub fn check_head(
     meta: &[u64],
     cells: &[[u64; CELL_WORDS]],
@@ -26,62 +25,46 @@ pub fn check_head(
     id: TxId,
     row: u64,
     head: Cell,
-) -> Verdict
-    ensures { result ≡ verdict (head_tests (mem {z = base} meta.now [] cells.now []) (slot_of base slot.now) id.0 row head.0) }
+) -> Result<(), Refusal>
+    ensures { judged result ≡ verdict (head_tests (mem {z = base} meta.now [] cells.now []) (slot_of base slot.now) id.0 row head.0) }
 {
     if arena::word_at(meta, CELLS) < head.0 {
-        return Verdict::Refused {
-            number: DAMAGED,
-            value: 0,
-        };
+        return Err(Refusal::Damaged);
     }
     if head.0 == 0 {
-        return Verdict::Fine;
+        return Ok(());
     }
     let v = arena::version_at(cells, head);
     if v.is_locked_by_other(id) {
-        return Verdict::Refused {
-            number: ROW_LOCKED,
-            value: row,
-        };
+        return Err(Refusal::RowLocked(row));
     }
     if !v.is_visible(slot) {
-        return Verdict::Refused {
-            number: WRITE_CONFLICT,
-            value: row,
-        };
+        return Err(Refusal::WriteConflict(row));
     }
-    Verdict::Fine
+    Ok(())
 }
 
 // Is there room for an entry, and a free cell?
-pub fn check_room(meta: &[u64], slot: &[u64; WIDTH]) -> Verdict
-    ensures { result ≡ verdict (room_tests base meta.now slot.now) }
+#[tactic(auto, unfolding(rules::specs::Verdicts::verdict))]
+pub fn check_room(meta: &[u64], slot: &[u64; WIDTH]) -> Result<(), Refusal>
+    ensures { judged result ≡ verdict (room_tests base meta.now slot.now) }
 {
     let entries = slot[WRITES];
     let free = arena::word_at(meta, FREE);
     if entries >= MOST_WRITES as u64 {
-        return Verdict::Refused {
-            number: WRITE_SET_FULL,
-            value: 0,
-        };
+        return Err(Refusal::WriteSetFull);
     }
     if free == 0 {
-        return Verdict::Refused {
-            number: NO_ROOM,
-            value: 0,
-        };
+        return Err(Refusal::NoRoom);
     }
     if arena::word_at(meta, CELLS) < free {
-        return Verdict::Refused {
-            number: DAMAGED,
-            value: 0,
-        };
+        return Err(Refusal::Damaged);
     }
-    Verdict::Fine
+    Ok(())
 }
 
 // The base is locked for this id; a row without a version has nothing to lock.
+#[tactic(auto, unfolding(rules::specs::Write::lock_base))]
 fn lock_base(cells: &mut [[u64; CELL_WORDS]], head: Cell, id: TxId)
     requires { head.0 ≤ length cells.old }
     ensures { cells.new ≡ lock_base cells.old head.0 id.0 }
@@ -99,7 +82,7 @@ pub fn prepare(
     cells: &mut [[u64; CELL_WORDS]],
     head: Cell,
     id: TxId,
-    value: Value,
+    value: Option<u64>,
 )
     requires meta_words_in_bounds { meta_words ≤ length meta.old }
     requires head_in_bounds { head.0 ≤ length cells.old }
@@ -115,7 +98,7 @@ pub fn prepare(
 }
 
 // An own entry's value, replaced in its cell.
-pub fn replace(cells: &mut [[u64; CELL_WORDS]], c: Cell, value: Value)
+pub fn replace(cells: &mut [[u64; CELL_WORDS]], c: Cell, value: Option<u64>)
     requires { HasCell cells.old c.0 }
     ensures { cells.new ≡ put_version cells.old c.0 (with_value (version_at cells.old c.0) (given value)) }
 {

@@ -1,9 +1,6 @@
-use Rattle.chains.specs.Fronts.{Giving}
-use Prim.Native.Nat.{◌-◌}
+use lib.ListN.{length}
+use Rattle.chains.specs.Fronts.{fronts, Giving}
 use Rattle.chains.proofs.give_all.Given as goal
 
-abbrev pub invariant-loop-i : goal.invariant-loop-i
-invariant-loop-i l = Giving l.reports l.count l.initial.meta l.initial.cells l.i l.meta l.cells
-
-abbrev pub decreases-loop-i : goal.decreases-loop-i
-decreases-loop-i l = l.count - l.i
+abbrev pub invariant-loop-report : goal.invariant-loop-report
+invariant-loop-report l = Giving l.reports (fronts l.reports 0 (length l.reports)) l.initial.meta l.initial.cells l.report-index l.meta l.cells

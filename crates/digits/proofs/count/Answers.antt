@@ -4,15 +4,6 @@ use Rattle.digits.specs.Numbers.{most}
 use Rattle.digits.specs.Laws.{count_done, again, enough}
 use Rattle.digits.proofs.count.Goals as goal
 
-pub loop-rest-init : goal.loop-rest-init
-loop-rest-init c = (omega arith, omega arith, omega arith, omega arith)
-
-pub overflow_add-k : goal.overflow_add-k
-overflow_add-k c = omega arith
-
-pub loop-rest-smaller : goal.loop-rest-smaller
-loop-rest-smaller c = omega (arith, enough c.loop-rest.k c.loop-rest.rest c.loop-rest.invariant.1 c.loop-rest.invariant.2 c.loop-rest-test.true)
-
 pub loop-rest-preserved : goal.loop-rest-preserved
 loop-rest-preserved c = let h = enough c.loop-rest.k c.loop-rest.rest c.loop-rest.invariant.1 c.loop-rest.invariant.2 c.loop-rest-test.true in again _ c.loop-rest.k c.loop-rest.rest h c.loop-rest.invariant.2 c.loop-rest-test.true c.loop-rest.invariant.3
 

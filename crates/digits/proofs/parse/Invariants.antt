@@ -1,11 +1,6 @@
-use mathlib.Core.Path.{◌≡◌}
-use lib.ListN.{length, drop}
-use Prim.Native.Nat.{◌-◌, ◌^◌, ◌<◌, ◌≤◌}
+use Rattle.std.proofs.Common.{◌≡◌, ◌^◌, ◌<◌, drop}
 use Rattle.digits.specs.Numbers.{read_on, number_of}
 use Rattle.digits.proofs.parse.Given as goal
 
-abbrev pub invariant-loop-i : goal.invariant-loop-i
-invariant-loop-i l = (l.i ≤ length l.s) × (l.v < 2 ^ 64) × (read_on l.v (drop l.i l.s) ≡ number_of l.s)
-
-abbrev pub decreases-loop-i : goal.decreases-loop-i
-decreases-loop-i l = length l.s - l.i
+abbrev pub invariant-loop-b : goal.invariant-loop-b
+invariant-loop-b l = record { in_width : l.v < 2 ^ 64; read : read_on l.v (drop l.b-index l.s) ≡ number_of l.s }

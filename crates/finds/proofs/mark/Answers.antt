@@ -5,8 +5,8 @@ use Rattle.finds.proofs.mark.Goals as goal
 
 pub returns-then-row : goal.returns-then-row
 unfolding marked
-returns-then-row c = rw (le-leb base.rows c.args.row c.if-row.true)
+returns-then-row c = rw (lt-leb base.rows c.args.row c.if-row.true)
 
-pub returns : goal.returns
+pub returns-else-row : goal.returns-else-row
 unfolding marked
-returns c = rw (lt-leb base.rows c.args.row c.if-row.false)
+returns-else-row c = rw (le-leb base.rows c.args.row c.if-row.false)

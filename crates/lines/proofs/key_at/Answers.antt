@@ -10,14 +10,14 @@ pub returns-then-at-s : goal.returns-then-at-s
 unfolding ending
 returns-then-at-s c = rw c.in-Write.is (key_empty _ _ _ c.args.s.now c.args.at c.if-at-s.true)
 
-pub returns-then-last-s : goal.returns-then-last-s
+pub returns-in-Some : goal.returns-in-Some
 unfolding ending
-returns-then-last-s c = rw c.in-Write.is (key_last _ _ _ c.args.s.now c.args.at c.requires c.if-at-s.false _ c.number_at.ensures _ _ c.in-Is.is c.if-last-s.true)
+returns-in-Some c = rw c.in-Write.is (key_last _ _ _ c.args.s.now c.args.at c.requires c.if-at-s.false _ c.in-Some.ensures c.if-end-s.true)
 
-pub returns-in-Nothing : goal.returns-in-Nothing
+pub returns-in_default-number_at : goal.returns-in_default-number_at
 unfolding ending
-returns-in-Nothing c = rw c.in-Write.is (key_bad _ _ _ c.args.s.now c.args.at c.requires c.if-at-s.false _ c.number_at.ensures c.in-Nothing.is)
+returns-in_default-number_at c = rw c.in-Write.is (key_more _ _ _ c.args.s.now c.args.at c.requires c.if-at-s.false _ c.in-Some.ensures c.if-end-s.false)
 
-pub returns-else-last-s : goal.returns-else-last-s
+pub returns-in_default-number_at-2 : goal.returns-in_default-number_at-2
 unfolding ending
-returns-else-last-s c = rw c.in-Write.is (key_more _ _ _ c.args.s.now c.args.at c.requires c.if-at-s.false _ c.number_at.ensures _ _ c.in-Is.is c.if-last-s.false)
+returns-in_default-number_at-2 c = rw c.in-Write.is (key_bad _ _ _ c.args.s.now c.args.at c.requires c.if-at-s.false (rw (c.in_default-number_at.is) at c.number_at.ensures))

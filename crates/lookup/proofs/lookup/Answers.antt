@@ -1,11 +1,13 @@
-use mathlib.Core.Path.{sym, ◌∙◌}
-use Rattle.rules.specs.Memory.{mem}
+use mathlib.Core.Path.{sym}
+use Rattle.std.proofs.lemmas.Result.{err_from_is_err_and}
 use Rattle.lookup.specs.CallLaws.{lookup_refused, lookup_goes_on}
 use Rattle.lookup.specs.LookupRest.{filled_is, filled_refused}
 use Rattle.lookup.proofs.lookup.Goals as goal
 
-pub returns-in-Refused : goal.returns-in-Refused
-returns-in-Refused c = filled_refused _ _ _ _ _ (lookup_refused (mem c.args.meta.now c.args.rows.now c.args.cells.now c.args.slots.now) c.args.slot c.args.key c.args.candidates.now _ _ _ (sym c.check_candidates.ensures ∙ c.in-Refused.is))
+pub returns-in_err-check_candidates : goal.returns-in_err-check_candidates
+returns-in_err-check_candidates c =
+    let p = err_from_is_err_and c.from_residual.result c.from_residual.ensures.1 in
+    rw (p.1, p.2) (filled_refused _ _ _ _ _ (lookup_refused _ _ _ _ _ _ _ (sym c.in_err-check_candidates.ensures)))
 
-pub returns-in-Fine : goal.returns-in-Fine
-returns-in-Fine c = filled_is _ _ _ _ _ _ c.lookup_rows.ensures (lookup_goes_on (mem c.args.meta.now c.args.rows.now c.args.cells.now c.args.slots.now) c.args.slot c.args.key c.args.candidates.now _ (sym c.check_candidates.ensures ∙ c.in-Fine.is))
+pub returns : goal.returns
+returns c = filled_is _ _ _ _ _ _ c.lookup_rows.ensures (lookup_goes_on _ _ _ _ _ (sym c.in_ok-check_candidates.ensures))

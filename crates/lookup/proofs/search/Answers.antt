@@ -1,17 +1,25 @@
-use Rattle.rules.specs.Memory.{mem}
-use Rattle.lookup.specs.RowLaws.{zeros, zeros_long}
-use lib.ListN.{length}
+use native.Mathlib.Omega.{arith}
+use mathlib.Core.Path.{refl, ap}
+use Rattle.std.proofs.lemmas.Result.{err_from_is_err_and}
+use Rattle.kinds.specs.Results.{judged}
+use Rattle.lookup.specs.RowLaws.{zeros_long}
 use Rattle.lookup.specs.SearchLaws.{search_stopped, search_late, search_fits, search_listed}
 use Rattle.lookup.proofs.search.Goals as goal
 
+pub returns-in_err-scan : goal.returns-in_err-scan
+returns-in_err-scan c =
+    let p = err_from_is_err_and c.from_residual.result c.from_residual.ensures.1 in
+    rw (p.1, p.2) (search_stopped _ _ _ c.requires (c.told-slots c.args.slot (omega arith)) _ _ _ _ zeros_long _ _ _ _ c.in_err-scan.ensures _ _ _ refl)
+
+pub returns-in_err-late : goal.returns-in_err-late
+returns-in_err-late c =
+    let p = err_from_is_err_and c.from_residual-in_err-late.result c.from_residual-in_err-late.ensures.1 in
+    rw (p.1, p.2) (search_late _ _ _ c.requires (c.told-slots c.args.slot (omega arith)) _ _ _ _ zeros_long _ _ _ _ c.in_ok-scan.ensures _ refl _ _ _ (ap judged c.in_err-late.was))
+
 pub fill-requires : goal.fill-requires
-fill-requires c = search_fits (mem c.args.meta.now c.args.rows.now c.args.cells.now c.args.slots.now) c.args.slot c.args.id.0 c.requires c.width.ensures c.args.key (length c.args.results.now) c.args.marks.now zeros zeros_long c.args.late _ _ _ c.scan.ensures _ c.in-Rows.is
+fill-requires c =
+    let f = search_fits _ _ _ c.requires (c.told-slots c.args.slot (omega arith)) _ _ _ _ zeros_long (judged c.args.late) _ _ _ c.in_ok-scan.ensures _ refl in
+    rw c.rows.ensures (omega (arith, f.1.0, f.1.1))
 
-pub returns-in-Stopped : goal.returns-in-Stopped
-returns-in-Stopped c = search_stopped (mem c.args.meta.now c.args.rows.now c.args.cells.now c.args.slots.now) c.args.slot c.args.id.0 c.requires c.width.ensures c.args.key (length c.args.results.now) c.args.marks.now zeros zeros_long c.args.late _ _ _ c.scan.ensures _ _ _ c.in-Stopped.is
-
-pub returns-in-Refused : goal.returns-in-Refused
-returns-in-Refused c = search_late (mem c.args.meta.now c.args.rows.now c.args.cells.now c.args.slots.now) c.args.slot c.args.id.0 c.requires c.width.ensures c.args.key (length c.args.results.now) c.args.marks.now zeros zeros_long c.args.late _ _ _ c.scan.ensures _ c.in-Rows.is _ _ _ c.in-Refused.is
-
-pub returns-in-Fine : goal.returns-in-Fine
-returns-in-Fine c = search_listed (mem c.args.meta.now c.args.rows.now c.args.cells.now c.args.slots.now) c.args.slot c.args.id.0 c.requires c.width.ensures c.args.key (length c.args.results.now) c.args.marks.now zeros zeros_long c.args.late _ _ _ c.scan.ensures _ c.in-Rows.is _ _ c.in-Fine.is c.fill.ensures
+pub returns : goal.returns
+returns c = search_listed _ _ _ c.requires (c.told-slots c.args.slot (omega arith)) _ _ _ _ zeros_long _ _ _ _ c.in_ok-scan.ensures _ refl _ _ (ap judged c.in_ok-late.was) (rw c.rows.ensures at c.fill.ensures)

@@ -1,34 +1,15 @@
-use lib.Dec.{eqb}
-use Rattle.opens.specs.PlaceLaws.{gather_turn, gather_end, place_le}
-use Rattle.slots.specs.OccupiedLaws.{rest}
-use Rattle.words.specs.Sizes.{base, ID}
-use lib.ListN.{get_or, take, set, length-set}
-use mathlib.Core.List.{◌++◌, []}
-use Prim.Native.Nat.{ℕ, ◌+◌}
-use mathlib.Core.Path.{refl, ap, ◌∙◌}
-use native.Mathlib.Omega.{arith}
+use Rattle.std.proofs.Common.{◌∙◌, ap, arith, length, length-set, length-take}
+use Rattle.words.specs.Sizes.{ID}
+use Rattle.rules.specs.Snapshot.{occupied}
+use Rattle.opens.proofs.PlaceLaws.{one_at_most, gathered_more, gathered_all}
 use Rattle.opens.proofs.gather.Goals as goal
 
-pub loop-i-init : goal.loop-i-init
-loop-i-init c = (c.slots_in-n.ensures, omega arith, omega arith, refl, refl)
-
-pub bounds-ids-k : goal.bounds-ids-k
-bounds-ids-k c = omega arith
-
-pub place_after-k-requires : goal.place_after-k-requires
-place_after-k-requires c = omega arith
-
-pub overflow_add-i : goal.overflow_add-i
-overflow_add-i c = omega arith
-
-pub loop-i-smaller : goal.loop-i-smaller
-loop-i-smaller c = omega arith
-
-pub loop-i-preserved : goal.loop-i-preserved
-loop-i-preserved c = (c.loop-i.invariant.0, omega arith, omega (arith, c.place_after-k.ensures, place_le (eqb (get_or (get_or c.args.slots.now c.loop-i.i []) ID 0) 0) c.loop-i.k), simp length-set c.loop-i.invariant.3, ap (λ (p : ℕ). take p (set c.loop-i.ids c.loop-i.k (get_or (get_or c.args.slots.now c.loop-i.i []) ID 0)) ++ rest ID base.slots c.args.slots.now (c.loop-i.i + 1)) c.place_after-k.ensures ∙ gather_turn base.slots c.args.slots.now c.loop-i.ids c.loop-i.k c.loop-i.i (omega arith) (omega arith) ∙ c.loop-i.invariant.4)
-
-pub shape_of-ids : goal.shape_of-ids
-shape_of-ids c = c.loop-i.invariant.3
+pub loop-slot-preserved : goal.loop-slot-preserved
+loop-slot-preserved c = (
+  omega (arith, one_at_most _ _ c.from-k.ensures),
+  simp length-set c.loop-slot.invariant.1,
+  rw c.from-k.ensures (gathered_more _ _ _ _ c.loop-slot-test.true (omega (arith, simp length-take at (ap length c.counted-slot-items.ensures))) ∙ c.loop-slot.invariant.2),
+)
 
 pub returns : goal.returns
-returns c = record { few = omega arith; all = gather_end base.slots c.args.slots.now c.loop-i.ids c.loop-i.k c.loop-i.i (omega arith) c.loop-i.invariant.4 }
+returns c = record { few = simp length-take (omega (arith, simp length-take at (ap length c.counted-slot-items.ensures))); all = gathered_all _ _ _ _ c.loop-slot-test.false c.loop-slot.invariant.2 ∙ ap (occupied ID) c.counted-slot-items.ensures }

@@ -15,7 +15,7 @@ pub returns-in-Write : goal.returns-in-Write
 returns-in-Write c = acted_as c.in-Write.is (c.put.ensures _ _)
 
 pub returns-in-Delete : goal.returns-in-Delete
-returns-in-Delete c = acted_as c.in-Delete.is (c.erase.ensures _ _)
+returns-in-Delete c = acted_as c.in-Delete.is (c.put-in-Delete.ensures _ _)
 
 pub returns-in-Commit : goal.returns-in-Commit
 returns-in-Commit c = acted_as c.in-Commit.is (commit_acted _ _ _ _ _ _ _ c.commit.ensures)

@@ -1,19 +1,14 @@
-use Rattle.publish.specs.PublishLaws.{lent}
-use Rattle.rules.specs.Theory.Bridge.{AllIn}
-use Rattle.rules.specs.Commit.{publish_all}
-use Rattle.words.specs.Slots.{slot_of, threes, write}
+use Rattle.std.specs.Prelude.{◌≡◌, drop}
 use Rattle.words.specs.Sizes.{base}
-use lib.ListN.{length}
-use Prim.Native.Nat.{◌+◌, ◌*◌, ◌≤◌}
-use mathlib.Core.Path.{◌≡◌}
+use Rattle.words.specs.Slots.{slot_of}
+use Rattle.lists.specs.Triples.{entries}
+use Rattle.rules.specs.Commit.{publish_all}
+use Rattle.rules.specs.Theory.Bridge.{AllIn}
+use Rattle.publish.specs.PublishLaws.{lent}
 use Rattle.publish.proofs.publish_all.Given as goal
 
-abbrev pub invariant-loop-left : goal.invariant-loop-left
-invariant-loop-left l = (l.a + 3 * l.left ≤ base.width)
-    × ((length l.rows ≡ length l.initial.rows)
-    × ((length l.cells ≡ length l.initial.cells)
-    × (AllIn (lent l.initial.rows l.initial.cells) (threes write l.slot l.a l.left)
-    × (publish_all l.id.0 (threes write l.slot l.a l.left) (lent l.rows l.cells) ≡ publish_all l.id.0 (slot_of base l.slot).writes (lent l.initial.rows l.initial.cells)))))
-
-abbrev pub decreases-loop-left : goal.decreases-loop-left
-decreases-loop-left l = l.left
+-- what is left has its rows and cells, and is still to publish
+abbrev pub invariant-loop-row : goal.invariant-loop-row
+invariant-loop-row l =
+    AllIn (lent l.initial.rows l.initial.cells) (entries (drop l.row-index l.row-items))
+    × (publish_all l.id.0 (entries (drop l.row-index l.row-items)) (lent l.rows l.cells) ≡ publish_all l.id.0 (slot_of base l.slot).writes (lent l.initial.rows l.initial.cells))

@@ -1,17 +1,10 @@
--- A turn takes one slot off the front, and the loop ends with none left.
-use Rattle.std.proofs.Common.{◌∙◌, sym}
-use Rattle.records.proofs.FoldLaws.{lowers, fold_is_least, fold_next, fold_end}
+use Rattle.std.proofs.Common.{◌≡◌, ◌∙◌, rules, tests, fold}
+use Rattle.records.proofs.FoldLaws.{lowers, fold_is_least}
 use Rattle.records.specs.Horizon.{least_active}
 use Rattle.records.proofs.least_active.Goals as goal
 
-pub loop-i-init : goal.loop-i-init
-loop-i-init c = fold_is_least (λ s. s.id) c.args.slots.now _
-
-pub loop-i-preserved : goal.loop-i-preserved
-loop-i-preserved c =
-    let e = fold_next (lowers (λ s. s.id)) c.args.slots.now c.loop-i.i (record { id = 0; xmin = 0 }) c.loop-i.least c.loop-i-test.true in
-    cc
-
 pub returns : goal.returns
 unfolding least_active
-returns c = sym (fold_end (lowers (λ s. s.id)) c.args.slots.now c.loop-i.i c.loop-i.least c.loop-i.auto.i-end c.loop-i-test.false) ∙ c.loop-i.invariant
+returns c =
+    let e : c.fold.result ≡ fold (λ a s. lowers (λ s. s.id) s a) c.args.clock c.args.slots.now = search (rules, tests) in
+    e ∙ fold_is_least (λ s. s.id) _ _

@@ -4,7 +4,7 @@ use Rattle.std.specs.Prelude.{◌≡◌, ℕ, ◌<◌, suc, zero, ◌≤◌, ◌
 use Rattle.std.proofs.Math.Path.{refl}
 use Rattle.std.proofs.Common.{ap, ◌∙◌, sym, le_of_suc-le-suc, arith, length-take, length-set, get_or-set_other}
 use borrow.Author.Tests.{eqb-true, leb-false}
-use Rattle.kinds.specs.declared.Answer.{Answer}
+use Rattle.kinds.specs.Answer.{Answer}
 use Rattle.words.specs.Sizes.{ID, Sizes, CLOCK, ROWS, CELLS, last_id}
 use Rattle.rules.specs.Numbers.{no_free_slot, clock_spent}
 use Rattle.words.specs.Slots.{slot_of}

@@ -4,8 +4,7 @@ use Rattle.std.proofs.Common.{true≢false, sym, ◌∙◌, arith, get_or-set_sa
 use mathlib.Core.List.{◌∷◌, List, ◌++◌, []}
 use Rattle.std.specs.Prelude.{◌≢◌, ◌≡◌, ℕ, ◌<◌, ◌+◌, eqb}
 use Rattle.std.proofs.Math.Option.{Option}
-use Rattle.kinds.specs.declared.Answer.{Answer}
-use Rattle.kinds.specs.declared.Answer.TheVariants.{Wrote, Done, Begun, Vacuumed, Listed}
+use Rattle.kinds.specs.Answer.{Answer, Wrote, Done, Begun, Vacuumed, Listed}
 use Rattle.words.specs.Sizes.{Sizes, CLOCK}
 use Rattle.rules.specs.Memory.{Mem, clock}
 use Rattle.rules.specs.Outcome.{Outcome, refuse}

@@ -9,9 +9,8 @@ use Rattle.std.proofs.Math.Dec.{leb}
 use Rattle.std.proofs.Math.ListN.{length}
 use Rattle.std.proofs.Math.Seq.{append_snoc}
 use borrow.Author.Tests.{ne_eqb, le-ltb, lt-ltb, le-leb, lt-leb, eq-eqb}
-use Rattle.kinds.specs.declared.Answer.{Answer}
-use Rattle.kinds.specs.declared.Answer.TheVariants.{Listed}
-use Rattle.kinds.specs.declared.ReadAnswer.TheVariants.{None}
+use Rattle.kinds.specs.Answer.{Answer, Listed}
+use Rattle.kinds.specs.ReadAnswer.{None}
 use Rattle.words.specs.Sizes.{Sizes}
 use Rattle.rules.specs.Numbers.{result_full, chain_too_long, read_set_full, number_of}
 use Rattle.words.specs.Lists.{keep, fold, from, first, has}

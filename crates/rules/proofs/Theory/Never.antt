@@ -6,8 +6,8 @@ use Rattle.std.proofs.Math.Option.{some, Option, none}
 use Rattle.std.proofs.Math.Path.{ap, sym}
 use native.Mathlib.Omega.{arith}
 use borrow.Author.Tests.{ne_eqb, le-ltb, leb-false, lt-leb, eq-eqb, le-leb}
-use Rattle.kinds.specs.declared.Answer.{Answer}
-use Rattle.kinds.specs.declared.ReadAnswer.{ReadAnswer}
+use Rattle.kinds.specs.Answer.{Answer}
+use Rattle.kinds.specs.ReadAnswer.{ReadAnswer}
 use Rattle.words.specs.Sizes.{Sizes, ACTIVE, WRITES, READS, ID}
 use Rattle.rules.specs.Numbers.{damaged, number_of, read_number}
 use Rattle.words.specs.Lists.{fold, from}

@@ -4,7 +4,7 @@ use mathlib.Core.List.{List, [], ◌∷◌, ◌++◌, append-nil}
 use Rattle.std.proofs.Math.Option.{some, none}
 use Rattle.std.proofs.Common.{sym, subst, ap}
 use native.Mathlib.Omega.{arith}
-use Rattle.kinds.specs.declared.Answer.{Answer}
+use Rattle.kinds.specs.Answer.{Answer}
 use Rattle.words.specs.Sizes.{Sizes}
 use Rattle.rules.specs.Numbers.{read_set_full, number_of}
 use Rattle.words.specs.Lists.{first, fold}

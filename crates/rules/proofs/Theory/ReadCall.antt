@@ -1,7 +1,7 @@
 -- A read keeps what holds: it adds a right record, or none. The history stays.
 use Rattle.std.specs.Prelude.{List, ◌++◌, [], ◌∷◌, ◌≡◌, refl, ℕ, ◌+◌, ◌≤◌, suc, ◌<◌, length, get_or}
 use Rattle.std.proofs.Common.{subst, sym, length-append, leb-false}
-use Rattle.kinds.specs.declared.ReadAnswer.{ReadAnswer}
+use Rattle.kinds.specs.ReadAnswer.{ReadAnswer}
 use Rattle.words.specs.Sizes.{Sizes, READS}
 use Rattle.kinds.specs.Versions.{version_at}
 use Rattle.words.specs.Slots.{Rec, Slot, add_recs}

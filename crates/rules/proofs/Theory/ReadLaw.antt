@@ -6,10 +6,8 @@ use Rattle.std.proofs.Common.{inl, inr, sym, ◌∙◌, arith, ne_eqb}
 use Rattle.std.proofs.Math.Option.{some, Option, none}
 use Rattle.std.proofs.Math.Path.{◌≡◌, ap, subst}
 use Rattle.std.proofs.lemmas.Bool.{not-false, lt-leb}
-use Rattle.kinds.specs.declared.Answer.{Answer}
-use Rattle.kinds.specs.declared.Answer.TheVariants.{Done}
-use Rattle.kinds.specs.declared.ReadAnswer.{ReadAnswer}
-use Rattle.kinds.specs.declared.ReadAnswer.TheVariants.{None}
+use Rattle.kinds.specs.Answer.{Answer, Done}
+use Rattle.kinds.specs.ReadAnswer.{ReadAnswer, None}
 use Rattle.words.specs.Sizes.{Sizes, Roomy}
 use Rattle.rules.specs.Numbers.{bad_size, chain_too_long, read_set_full, read_number}
 use Rattle.words.specs.Lists.{first}

@@ -7,9 +7,8 @@ use Rattle.std.proofs.Math.Option.{Option, some, none}
 use Rattle.std.proofs.Math.Path.{sym, refl}
 use Rattle.std.proofs.Math.ListN.{get_or, set}
 use borrow.Author.Tests.{leb-false, eq-eqb, ne_eqb}
-use Rattle.kinds.specs.declared.Answer.{Answer}
-use Rattle.kinds.specs.declared.Answer.TheVariants.{Done, Begun, Wrote, Vacuumed, Listed}
-use Rattle.kinds.specs.declared.ReadAnswer.{ReadAnswer}
+use Rattle.kinds.specs.Answer.{Answer, Done, Begun, Wrote, Vacuumed, Listed}
+use Rattle.kinds.specs.ReadAnswer.{ReadAnswer}
 use Rattle.words.specs.Sizes.{Sizes, READS, WRITES}
 use Rattle.words.specs.Lists.{keep}
 use Rattle.kinds.specs.Versions.{version_at}

@@ -4,8 +4,7 @@ use mathlib.Core.List.{[], ◌∷◌, List, ◌++◌}
 use Rattle.std.proofs.Math.Option.{none, Option}
 use Rattle.std.proofs.Math.Path.{refl, sym}
 use borrow.Author.Tests.{eqb-true, not-false}
-use Rattle.kinds.specs.declared.Answer.{Answer}
-use Rattle.kinds.specs.declared.Answer.TheVariants.{Begun, Done, Wrote, Vacuumed, Listed}
+use Rattle.kinds.specs.Answer.{Answer, Begun, Done, Wrote, Vacuumed, Listed}
 use Rattle.words.specs.Sizes.{Sizes, Roomy}
 use Rattle.rules.specs.Numbers.{bad_size}
 use Rattle.words.specs.Lists.{or_else}

@@ -4,7 +4,7 @@ use mathlib.Core.List.{List, [], ◌∷◌, map, ◌++◌}
 use Rattle.std.proofs.Math.Path.{refl, ap, subst}
 use Rattle.std.proofs.Common.{◌∙◌, sym, le_of_suc-le-suc, arith, ne_eqb, ltb-true, leb-false}
 use Rattle.std.proofs.lemmas.Bool.{eqb-false, not-true}
-use Rattle.kinds.specs.declared.Answer.{Answer}
+use Rattle.kinds.specs.Answer.{Answer}
 use Rattle.words.specs.Sizes.{Sizes}
 use Rattle.words.specs.Lists.{least, fold, nonzero, keep}
 use Rattle.kinds.specs.Versions.{empty_version, version_at}

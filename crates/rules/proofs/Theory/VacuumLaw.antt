@@ -4,8 +4,7 @@ use mathlib.Core.List.{List, [], ◌∷◌, ◌++◌}
 use Rattle.std.proofs.Common.{ap, ◌∙◌, sym, subst, arith, get_or-set_same, get_or-set_other, le-ltb, lt-ltb}
 use Rattle.std.proofs.Math.Path.{refl}
 use Rattle.std.proofs.lemmas.Bool.{lt-leb}
-use Rattle.kinds.specs.declared.Answer.{Answer}
-use Rattle.kinds.specs.declared.Answer.TheVariants.{Vacuumed}
+use Rattle.kinds.specs.Answer.{Answer, Vacuumed}
 use Rattle.words.specs.Sizes.{Sizes}
 use Rattle.rules.specs.Numbers.{result_full}
 use Rattle.words.specs.Lists.{keep, fold}

@@ -4,7 +4,7 @@ use Rattle.std.proofs.Math.Option.{Option, none, some}
 use Rattle.std.proofs.Common.{subst, ◌∙◌, sym, arith}
 use Rattle.std.proofs.Math.Path.{refl}
 use borrow.Author.Tests.{eqb-true, not-false, ne_eqb, ltb-false, leb-false, eqb-false}
-use Rattle.kinds.specs.declared.Answer.{Answer}
+use Rattle.kinds.specs.Answer.{Answer}
 use Rattle.kinds.specs.declared.Version.{Version}
 use Rattle.words.specs.Sizes.{Sizes, WRITES}
 use Rattle.rules.specs.Numbers.{damaged}

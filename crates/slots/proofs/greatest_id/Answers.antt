@@ -1,25 +1,15 @@
-use Rattle.words.specs.Lists.{greatest}
-use Rattle.slots.specs.OccupiedLaws.{rest, greatest_turn, greatest_end}
-use Rattle.words.specs.Sizes.{base, ID}
-use Prim.Native.Nat.{◌+◌, max}
-use mathlib.Core.Path.{sym, ap, ◌∙◌}
-use native.Mathlib.Omega.{arith}
+use Rattle.std.proofs.Common.{◌∙◌, ap, rules, tests, get_or, unwrap_or}
+use Rattle.std.specs.Ordering.{max_by_ordering, nat_cmp}
+use Rattle.std.proofs.lemmas.Iterator.{YieldsList-from_slice, YieldsList-from_map}
+use Rattle.std.proofs.lemmas.Iterator.Consumers.{YieldsList-at, reduce_from_yields_List}
+use Rattle.words.specs.Sizes.{ID}
+use Rattle.slots.proofs.ChainLaws.{greatest_max}
 use Rattle.slots.proofs.greatest_id.Goals as goal
 
-pub loop-i-init : goal.loop-i-init
-loop-i-init c = (c.slots_in-n.ensures, omega arith, omega arith)
-
-pub bounds-slots-i : goal.bounds-slots-i
-bounds-slots-i c = omega arith
-
-pub overflow_add-i : goal.overflow_add-i
-overflow_add-i c = omega arith
-
-pub loop-i-smaller : goal.loop-i-smaller
-loop-i-smaller c = omega arith
-
-pub loop-i-preserved : goal.loop-i-preserved
-loop-i-preserved c = (c.loop-i.invariant.0, omega arith, ap (λ x. max x (greatest (rest ID base.slots c.args.slots.now (c.loop-i.i + 1)))) c.raised-top.ensures ∙ greatest_turn ID base.slots c.args.slots.now c.loop-i.i c.loop-i.top (omega arith) ∙ c.loop-i.invariant.2)
-
 pub returns : goal.returns
-returns c = sym (greatest_end ID base.slots c.args.slots.now c.loop-i.i c.loop-i.top (omega arith)) ∙ c.loop-i.invariant.2
+returns c =
+    c.unwrap_or.ensures
+    ∙ ap (λ r. unwrap_or r 0)
+    (reduce_from_yields_List (λ p z. max_by_ordering (nat_cmp p z) p z) _ _ c.max.ensures.ran
+    (YieldsList-from_map _ (λ t. get_or t ID 0) (YieldsList-at c.map.ensures.source (YieldsList-from_slice _ (c.iter.ensures.rest ∙ c.counted.ensures))) c.map.ensures.closure (λ x r q k. search (rules, tests))))
+    ∙ greatest_max _

@@ -1,17 +1,20 @@
-use Rattle.lookup.specs.LookupRest.{lookup_split}
+use mathlib.Core.Path.{sym}
+use Rattle.std.proofs.lemmas.Result.{err_from_is_err_and}
 use Rattle.gate.proofs.FineLaws.{slot_fine}
+use Rattle.lookup.specs.LookupRest.{lookup_split}
 use Rattle.store.specs.Tested.{tested_refused, tested_fine, told_over, told_refused}
-use mathlib.Core.Path.{sym, ◌∙◌}
 use Rattle.store.proofs.lookup.Goals as goal
 
-by_outcome_and_results_after : {A B : Type 0} → A × B → record { outcome : A; results_after : B }
-by_outcome_and_results_after w = record { outcome = w.0; results_after = w.1 }
-
 pub lookup-requires : goal.lookup-requires
-lookup-requires c = slot_fine _ _ _ (sym c.check_slot.ensures ∙ c.in-Fine.is)
+lookup-requires c = slot_fine _ _ _ (sym c.in_ok-check_slot.ensures)
 
-pub returns-in-Refused : goal.returns-in-Refused
-returns-in-Refused c = by_outcome_and_results_after (told_refused _ _ _ _ _ (tested_refused _ _ _ _ (lookup_split _ _ _ _ _ _) _ _ (sym c.check_slot.ensures ∙ c.in-Refused.is)))
+pub returns-in_err-check_slot : goal.returns-in_err-check_slot
+returns-in_err-check_slot c =
+    let p = err_from_is_err_and c.from_residual.result c.from_residual.ensures.1 in
+    let t = told_refused _ _ _ _ _ (tested_refused _ _ _ _ (lookup_split _ _ _ _ _ _) _ _ (sym c.in_err-check_slot.ensures)) in
+    rw (p.1, p.2) (record { outcome = t.0; results_after = t.1 })
 
-pub returns-in-Fine : goal.returns-in-Fine
-returns-in-Fine c = by_outcome_and_results_after (told_over _ _ _ _ _ _ (tested_fine _ _ _ _ (lookup_split _ _ _ _ _ _) (sym c.check_slot.ensures ∙ c.in-Fine.is)) (c.lookup.ensures.outcome, c.lookup.ensures.buffer))
+pub returns : goal.returns
+returns c =
+    let t = told_over _ _ _ _ _ _ (tested_fine _ _ _ _ (lookup_split _ _ _ _ _ _) (sym c.in_ok-check_slot.ensures)) (c.lookup.ensures.outcome, c.lookup.ensures.buffer) in
+    record { outcome = t.0; results_after = t.1 }

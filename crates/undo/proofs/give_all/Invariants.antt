@@ -1,20 +1,14 @@
-use Rattle.undo.specs.UndoLaws.{lent}
-use Rattle.rules.specs.Theory.Bridge.{AllCells}
-use Rattle.rules.specs.Abort.{give_back, news}
-use Rattle.words.specs.Lists.{fold}
-use Rattle.words.specs.Slots.{slot_of, threes, write}
+use Rattle.std.specs.Prelude.{◌≡◌, drop}
 use Rattle.words.specs.Sizes.{base}
-use lib.ListN.{length}
-use Prim.Native.Nat.{◌+◌, ◌*◌, ◌≤◌}
-use mathlib.Core.Path.{◌≡◌}
+use Rattle.words.specs.Lists.{fold}
+use Rattle.words.specs.Slots.{slot_of}
+use Rattle.lists.specs.Triples.{entries}
+use Rattle.rules.specs.Abort.{news, give_back}
+use Rattle.rules.specs.Theory.Bridge.{AllCells}
+use Rattle.undo.specs.UndoLaws.{lent}
 use Rattle.undo.proofs.give_all.Given as goal
 
-abbrev pub invariant-loop-left : goal.invariant-loop-left
-invariant-loop-left l = (l.a + 3 * l.left ≤ base.width)
-    × ((length l.meta ≡ length l.initial.meta)
-    × ((length l.cells ≡ length l.initial.cells)
-    × (AllCells l.initial.cells (news (threes write l.slot l.a l.left))
-    × (fold give_back (news (threes write l.slot l.a l.left)) (lent l.meta l.cells) ≡ fold give_back (news (slot_of base l.slot).writes) (lent l.initial.meta l.initial.cells)))))
-
-abbrev pub decreases-loop-left : goal.decreases-loop-left
-decreases-loop-left l = l.left
+abbrev pub invariant-loop-new : goal.invariant-loop-new
+invariant-loop-new l =
+    AllCells l.initial.cells (news (entries (drop l.new-index l.new-items)))
+    × (fold give_back (news (entries (drop l.new-index l.new-items))) (lent l.meta l.cells) ≡ fold give_back (news (slot_of base l.slot).writes) (lent l.initial.meta l.initial.cells))

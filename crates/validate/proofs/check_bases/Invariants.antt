@@ -1,16 +1,15 @@
-use Rattle.validate.specs.Arenas.{lent, sized}
-use Rattle.rules.specs.Verdicts.{verdict}
-use Rattle.rules.specs.Outcome.{each}
-use Rattle.words.specs.Slots.{slot_of, threes, write}
+use Rattle.std.specs.Prelude.{◌≡◌, drop}
 use Rattle.words.specs.Sizes.{base}
+use Rattle.words.specs.Slots.{slot_of}
+use Rattle.lists.specs.Triples.{entries}
+use Rattle.rules.specs.Outcome.{each}
+use Rattle.rules.specs.Verdicts.{verdict}
 use Rattle.rules.specs.Commit.{base_tests}
-use Prim.Native.Nat.{◌+◌, ◌*◌, ◌≤◌}
-use mathlib.Core.Path.{◌≡◌}
+use Rattle.validate.specs.Arenas.{lent, sized}
 use Rattle.validate.proofs.check_bases.Given as goal
 
-abbrev pub invariant-loop-left : goal.invariant-loop-left
-invariant-loop-left l = (l.a + 3 * l.left ≤ base.width)
-    × (verdict (each (base_tests (sized l.r l.n l.rows l.cells)) (threes write l.slot l.a l.left)) ≡ verdict (each (base_tests (lent l.meta l.rows l.cells)) (slot_of base l.slot).writes))
-
-abbrev pub decreases-loop-left : goal.decreases-loop-left
-decreases-loop-left l = l.left
+-- what is left decides
+abbrev pub invariant-loop-row : goal.invariant-loop-row
+invariant-loop-row l =
+    verdict (each (base_tests (sized l.r l.n l.rows l.cells)) (entries (drop l.row-index l.row-items)))
+    ≡ verdict (each (base_tests (lent l.meta l.rows l.cells)) (slot_of base l.slot).writes)

@@ -1,17 +1,15 @@
-use Rattle.validate.specs.Arenas.{lent, sized}
-use Rattle.rules.specs.Verdicts.{verdict}
-use Rattle.rules.specs.Outcome.{each}
-use Rattle.words.specs.Slots.{slot_of, threes, write}
+use Rattle.std.specs.Prelude.{[], ◌≡◌, drop}
 use Rattle.words.specs.Sizes.{base}
+use Rattle.words.specs.Slots.{slot_of}
+use Rattle.lists.specs.Triples.{entries}
+use Rattle.rules.specs.Outcome.{each}
+use Rattle.rules.specs.Verdicts.{verdict}
 use Rattle.rules.specs.Commit.{new_tests}
-use Prim.Native.Nat.{◌+◌, ◌*◌, ◌≤◌}
-use mathlib.Core.List.{[]}
-use mathlib.Core.Path.{◌≡◌}
+use Rattle.validate.specs.Arenas.{lent, sized}
 use Rattle.validate.proofs.check_news.Given as goal
 
-abbrev pub invariant-loop-left : goal.invariant-loop-left
-invariant-loop-left l = (l.a + 3 * l.left ≤ base.width)
-    × (verdict (each (new_tests (sized 0 l.n [] [])) (threes write l.slot l.a l.left)) ≡ verdict (each (new_tests (lent l.meta [] [])) (slot_of base l.slot).writes))
-
-abbrev pub decreases-loop-left : goal.decreases-loop-left
-decreases-loop-left l = l.left
+-- what is left decides
+abbrev pub invariant-loop-new : goal.invariant-loop-new
+invariant-loop-new l =
+    verdict (each (new_tests (sized 0 l.n [] [])) (entries (drop l.new-index l.new-items)))
+    ≡ verdict (each (new_tests (lent l.meta [] [])) (slot_of base l.slot).writes)

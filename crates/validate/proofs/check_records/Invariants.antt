@@ -1,17 +1,15 @@
-use Rattle.validate.specs.Arenas.{lent, sized}
-use Rattle.rules.specs.Verdicts.{verdict}
-use Rattle.rules.specs.Outcome.{each}
-use Rattle.words.specs.Slots.{slot_of, threes, rec}
+use Rattle.std.specs.Prelude.{[], ◌≡◌, drop}
 use Rattle.words.specs.Sizes.{base}
+use Rattle.words.specs.Slots.{slot_of}
+use Rattle.lists.specs.Triples.{records}
+use Rattle.rules.specs.Outcome.{each}
+use Rattle.rules.specs.Verdicts.{verdict}
 use Rattle.rules.specs.Commit.{record_tests}
-use Prim.Native.Nat.{◌+◌, ◌*◌, ◌≤◌}
-use mathlib.Core.List.{[]}
-use mathlib.Core.Path.{◌≡◌}
+use Rattle.validate.specs.Arenas.{lent, sized}
 use Rattle.validate.proofs.check_records.Given as goal
 
-abbrev pub invariant-loop-left : goal.invariant-loop-left
-invariant-loop-left l = (l.a + 3 * l.left ≤ base.width)
-    × (verdict (each (record_tests (sized 0 l.n [] l.cells) (slot_of base l.slot)) (threes rec l.slot l.a l.left)) ≡ verdict (each (record_tests (lent l.meta [] l.cells) (slot_of base l.slot)) (slot_of base l.slot).recs))
-
-abbrev pub decreases-loop-left : goal.decreases-loop-left
-decreases-loop-left l = l.left
+-- what is left decides
+abbrev pub invariant-loop-row : goal.invariant-loop-row
+invariant-loop-row l =
+    verdict (each (record_tests (sized 0 l.n [] l.cells) (slot_of base l.slot)) (records (drop l.row-index l.row-items)))
+    ≡ verdict (each (record_tests (lent l.meta [] l.cells) (slot_of base l.slot)) (slot_of base l.slot).recs)
