@@ -186,6 +186,9 @@ module _ (s : List ℕ) (at n left : ℕ) (x : Numbers) (g : Going s at n left x
     pub going_more : (f : Field) → Stepped s x.end (Some f) → Going s at n m (record { a = x.b; b = x.c; c = f.value; end = f.end })
     going_more f t = record { same = λ k. going_on k ∙ t.step (λ v. numbered m k x.b x.c v) }
 
+pub counted_more : (s : List ℕ) (at n : ℕ) (r : Option Numbers) (x : Numbers) → Counted s at n r → r ≡ Some x → x.end ≢ length s → x.end < length s
+counted_more s at n r x t q z = omega (arith, ap place_of q, t.within)
+
 -- ---- the key of a write
 
 module _ (x y z : ℕ) where

@@ -9,13 +9,13 @@ ghost use Rattle.rules.specs.Memory.{Mem};
 ghost use Rattle.rules.specs.Lent.{mem_in, mem_out};
 ghost use Rattle.digits.specs.Numbers.{Laid};
 ghost use Rattle.lines.specs.Lines.{meaning};
+ghost use Rattle.answers.specs.Answers.{room};
 ghost use Rattle.pieces.specs.Held.{Sane, Holds};
 ghost use Rattle.pieces.specs.Laws.{between};
 ghost use Rattle.pieces.specs.Texts.{records};
 ghost use Rattle.perform.specs.Perform.{performed, replayed};
 ghost use Rattle.perform.specs.Laws.{rooms};
-ghost use Rattle.player.specs.declared.TheConstants.{LARGE};
-ghost use Rattle.player.specs.Sizes.{lent_cells, lent_rows, longest_answer};
+ghost use Rattle.player.specs.Sizes.{Lent, lent_cells, lent_rows, longest_answer};
 ghost use Rattle.player.specs.Zeroed.{zeroed};
 ghost use Rattle.player.specs.Turns.{Ready, Answered, Turned, Stands, Placed};
 ghost use Rattle.player.specs.Batches.{Taken, Batched, Moved};
@@ -56,17 +56,23 @@ pub enum Turn {
 }
 
 // What a run works with beside the store: the front of a record, the reports of a vacuum, the numbers of an answer, the output.
+// Of any lengths: each function says what it asks of them (`Ready`, `Lent`).
 #[derive(Drop)]
-struct Desk {
-    front: [u8; RECORD],
-    reports: [[u64; 3]; CELLS],
-    numbers: [u64; CELLS],
-    out: [u8; LARGE],
+struct Desk<const FRONT: usize, const REPORTS: usize, const NUMBERS: usize, const OUT: usize> {
+    front: [u8; FRONT],
+    reports: [[u64; 3]; REPORTS],
+    numbers: [u64; NUMBERS],
+    out: [u8; OUT],
     // what the type says, told to those who changed the output
-    ghost kept: { length out ≡ LARGE },
+    ghost kept: { length out ≡ OUT },
 }
 
-impl Desk {
+impl<const FRONT: usize, const REPORTS: usize, const NUMBERS: usize, const OUT: usize> Desk<
+    FRONT,
+    REPORTS,
+    NUMBERS,
+    OUT,
+> {
     // The record at the front, performed, and its answer put into the output from a place on. Answers the place after it.
     fn answer(
         &mut self,
@@ -77,13 +83,15 @@ impl Desk {
         cells: &mut [[u64; CELL_WORDS]],
         slots: &mut [[u64; WIDTH]],
     ) -> usize
-        requires { (count ≤ RECORD) × (at + longest_answer ≤ LARGE) }
-        ensures upper_bound { result ≤ LARGE }
+        requires in_bounds { count ≤ FRONT }
+        requires all_listed { REPORTS ≤ NUMBERS }
+        requires has_room { at + room (2 + NUMBERS) ≤ OUT }
+        ensures upper_bound { result ≤ OUT }
         ensures front_kept { self.new.front ≡ self.old.front }
         ensures laid { Laid self.old.out self.new.out at result
-            (performed (rooms lent_cells lent_cells) (meaning (take count self.old.front)) (mem_in meta rows cells slots)).line }
+            (performed (rooms REPORTS NUMBERS) (meaning (take count self.old.front)) (mem_in meta rows cells slots)).line }
         ensures memory_after { mem_out meta rows cells slots
-            ≡ (performed (rooms lent_cells lent_cells) (meaning (take count self.old.front)) (mem_in meta rows cells slots)).after }
+            ≡ (performed (rooms REPORTS NUMBERS) (meaning (take count self.old.front)) (mem_in meta rows cells slots)).after }
     {
         let text = &self.front[..count];
         let reports = &mut self.reports;
@@ -94,19 +102,19 @@ impl Desk {
 }
 
 // The next record of a piece, performed.
-fn play_record(
+fn play_record<const FRONT: usize, const REPORTS: usize, const NUMBERS: usize, const OUT: usize>(
     piece: &[u8],
     place: Place,
-    desk: &mut Desk,
+    desk: &mut Desk<FRONT, REPORTS, NUMBERS, OUT>,
     meta: &mut [u64],
     rows: &mut [u64],
     cells: &mut [[u64; CELL_WORDS]],
     slots: &mut [[u64; WIDTH]],
 ) -> Turn
-    requires { Ready (length piece.now) RECORD CELLS CELLS LARGE place }
-    ensures placed { Placed (length piece.now) RECORD LARGE place result }
+    requires { Ready (length piece.now) FRONT REPORTS NUMBERS OUT place }
+    ensures placed { Placed (length piece.now) FRONT OUT place result }
     ensures turned { (p : List ℕ) → Holds p desk.old.front place.held
-        → Turned (rooms lent_cells lent_cells) p (drop place.from piece.now) place desk.new.front (mem_in meta rows cells slots) (mem_out meta rows cells slots) desk.old.out desk.new.out result }
+        → Turned (rooms REPORTS NUMBERS) p (drop place.from piece.now) place desk.new.front (mem_in meta rows cells slots) (mem_out meta rows cells slots) desk.old.out desk.new.out result }
 {
     let at = place.at;
     match pieces::next_record(&mut desk.front, place.held, piece, place.from) {
@@ -127,19 +135,20 @@ fn play_record(
 }
 
 // Records answered into the output, until the piece has no more or the longest answer has no room. Nothing is written out.
-fn play_batch(
+fn play_batch<const FRONT: usize, const REPORTS: usize, const NUMBERS: usize, const OUT: usize>(
     piece: &[u8],
     start: Place,
-    desk: &mut Desk,
+    desk: &mut Desk<FRONT, REPORTS, NUMBERS, OUT>,
     meta: &mut [u64],
     rows: &mut [u64],
     cells: &mut [[u64; CELL_WORDS]],
     slots: &mut [[u64; WIDTH]],
 ) -> Place
-    requires { (Stands (length piece.now) RECORD LARGE start) × (start.at + longest_answer ≤ LARGE) }
-    ensures moved { Moved (length piece.now) RECORD LARGE start result }
+    requires lent { Lent FRONT REPORTS NUMBERS OUT }
+    requires stands { (Stands (length piece.now) FRONT OUT start) × (start.at + longest_answer ≤ OUT) }
+    ensures moved { Moved (length piece.now) FRONT OUT start result }
     ensures batched { (p : List ℕ) → Holds p desk.old.front start.held
-        → Batched (rooms lent_cells lent_cells) p (between piece.now start.from result.from) desk.new.front result.held (mem_in meta rows cells slots) (mem_out meta rows cells slots) desk.old.out desk.new.out start.at result.at }
+        → Batched (rooms REPORTS NUMBERS) p (between piece.now start.from result.from) desk.new.front result.held (mem_in meta rows cells slots) (mem_out meta rows cells slots) desk.old.out desk.new.out start.at result.at }
 {
     let mut place = start;
     let last = desk.out.len() - ANSWER;
@@ -154,21 +163,28 @@ fn play_batch(
 }
 
 // Every record that ends in the piece, batch after batch, each written out.
-fn play_piece<W: Write>(
+fn play_piece<
+    W: Write,
+    const FRONT: usize,
+    const REPORTS: usize,
+    const NUMBERS: usize,
+    const OUT: usize,
+>(
     output: &mut W,
     piece: &[u8],
     held: Held,
-    desk: &mut Desk,
+    desk: &mut Desk<FRONT, REPORTS, NUMBERS, OUT>,
     meta: &mut [u64],
     rows: &mut [u64],
     cells: &mut [[u64; CELL_WORDS]],
     slots: &mut [[u64; WIDTH]],
 ) -> io::Result<Held>
-    requires { Sane RECORD held }
-    ensures still_sane { IfOk result (λ h. Sane RECORD h) }
-    ensures taken { IfOk result (λ h. (p : List ℕ) → Holds p desk.old.front held → Taken (rooms lent_cells lent_cells) p piece.now desk.new.front h (mem_in meta rows cells slots) (mem_out meta rows cells slots)) }
-    ensures written { OnOk result ((p : List ℕ) → Holds p desk.old.front held → Wrote (rooms lent_cells lent_cells) p piece.now (mem_in meta rows cells slots) (W.contents output.old) (W.contents output.new)) }
-    ensures stopped { OnErr result ((p : List ℕ) → Holds p desk.old.front held → Stopped (rooms lent_cells lent_cells) p piece.now (mem_in meta rows cells slots) (mem_out meta rows cells slots)) }
+    requires lent { Lent FRONT REPORTS NUMBERS OUT }
+    requires sane { Sane FRONT held }
+    ensures still_sane { IfOk result (λ h. Sane FRONT h) }
+    ensures taken { IfOk result (λ h. (p : List ℕ) → Holds p desk.old.front held → Taken (rooms REPORTS NUMBERS) p piece.now desk.new.front h (mem_in meta rows cells slots) (mem_out meta rows cells slots)) }
+    ensures written { OnOk result ((p : List ℕ) → Holds p desk.old.front held → Wrote (rooms REPORTS NUMBERS) p piece.now (mem_in meta rows cells slots) (W.contents output.old) (W.contents output.new)) }
+    ensures stopped { OnErr result ((p : List ℕ) → Holds p desk.old.front held → Stopped (rooms REPORTS NUMBERS) p piece.now (mem_in meta rows cells slots) (mem_out meta rows cells slots)) }
 {
     let mut place = Place {
         from: 0,
@@ -186,17 +202,19 @@ fn play_piece<W: Write>(
 }
 
 // What has come at the end of the input is a last record, where it is not empty. Answers the place after its answer.
-fn answer_rest(
+fn answer_rest<const FRONT: usize, const REPORTS: usize, const NUMBERS: usize, const OUT: usize>(
     held: Held,
-    desk: &mut Desk,
+    desk: &mut Desk<FRONT, REPORTS, NUMBERS, OUT>,
     meta: &mut [u64],
     rows: &mut [u64],
     cells: &mut [[u64; CELL_WORDS]],
     slots: &mut [[u64; WIDTH]],
 ) -> usize
-    requires { Sane RECORD held }
-    ensures upper_bound { result ≤ LARGE }
-    ensures answered { (p : List ℕ) → Holds p desk.old.front held → Answered (rooms lent_cells lent_cells) (records p) (mem_in meta rows cells slots) (mem_out meta rows cells slots) desk.old.out desk.new.out 0 result }
+    requires lent { Lent FRONT REPORTS NUMBERS OUT }
+    requires sane { Sane FRONT held }
+    ensures upper_bound { result ≤ OUT }
+    ensures front_kept { desk.new.front ≡ desk.old.front }
+    ensures answered { (p : List ℕ) → Holds p desk.old.front held → Answered (rooms REPORTS NUMBERS) (records p) (mem_in meta rows cells slots) (mem_out meta rows cells slots) desk.old.out desk.new.out 0 result }
 {
     let count = held.count;
     if count == 0 {
@@ -207,19 +225,27 @@ fn answer_rest(
 
 // Every record that ends in the input; what is held at its end. A proved loop has to end, and nothing says that the input does: so it
 // counts its turns, to a number that no run uses up.
-fn play_input<R: Read, W: Write>(
+fn play_input<
+    R: Read,
+    W: Write,
+    const FRONT: usize,
+    const REPORTS: usize,
+    const NUMBERS: usize,
+    const OUT: usize,
+>(
     input: &mut R,
     output: &mut W,
-    desk: &mut Desk,
+    desk: &mut Desk<FRONT, REPORTS, NUMBERS, OUT>,
     meta: &mut [u64],
     rows: &mut [u64],
     cells: &mut [[u64; CELL_WORDS]],
     slots: &mut [[u64; WIDTH]],
 ) -> io::Result<Held>
-    ensures sane { IfOk result (λ h. Sane RECORD h) }
-    ensures heard { IfOk result (λ h. Heard (rooms lent_cells lent_cells) desk.new.front h (mem_in meta rows cells slots) (mem_out meta rows cells slots)
+    requires { Lent FRONT REPORTS NUMBERS OUT }
+    ensures sane { IfOk result (λ h. Sane FRONT h) }
+    ensures heard { IfOk result (λ h. Heard (rooms REPORTS NUMBERS) desk.new.front h (mem_in meta rows cells slots) (mem_out meta rows cells slots)
         (R.remaining input.old) (R.remaining input.new) (W.contents output.old) (W.contents output.new)) }
-    ensures failed { OnErr result (Failed (rooms lent_cells lent_cells) (mem_in meta rows cells slots) (mem_out meta rows cells slots) (R.remaining input.old) (R.remaining input.new)) }
+    ensures failed { OnErr result (Failed (rooms REPORTS NUMBERS) (mem_in meta rows cells slots) (mem_out meta rows cells slots) (R.remaining input.old) (R.remaining input.new)) }
 {
     let mut piece = [0u8; LARGE];
     let mut held = pieces::nothing();

@@ -4,7 +4,7 @@ use Rattle.player.proofs.Writing.{hearing_start, hearing_then, on_err_anyway, fa
 use Rattle.player.proofs.play_input.Goals as goal
 
 pub loop-init : goal.loop-init
-loop-init g c = (c.nothing-held.ensures.0 _ (omega arith), hearing_start _ _ _ _ _ _ _ (omega arith) (c.nothing-held.ensures.1 _))
+loop-init g c = (c.nothing-held.ensures.0 _ (omega (arith, c.requires.record_kept)), hearing_start _ _ _ _ _ _ _ (omega arith) (c.nothing-held.ensures.1 _))
 
 pub loop-preserved : goal.loop-preserved
 loop-preserved g c =

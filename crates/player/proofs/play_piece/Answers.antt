@@ -7,7 +7,7 @@ use Rattle.player.proofs.play_piece.Goals as goal
 
 pub loop-place-init : goal.loop-place-init
 loop-place-init g c = (
-  c.requires,
+  c.requires.sane,
   omega arith,
   refl,
   λ p x. taken_start _ p c.args.piece.now _ _ _ _ refl x,
