@@ -5,17 +5,17 @@ ghost use Rattle.std.specs.Prelude.{◌≡◌, ◌<◌, ◌≤◌, length, take}
 ghost use Rattle.words.specs.Sizes.{base, last_id};
 ghost use Rattle.words.specs.Sizes as words;
 ghost use Rattle.words.specs.Slots.{opened};
-ghost use Rattle.rules.specs.Snapshot.{occupied};
+ghost use Rattle.opens.specs.Gathered.{Gathered};
 ghost use Rattle.opens.specs.OpenedAt.{opened_at};
 
 use slots::Snapshot;
 use words::{ACTIVE, ID, LOW, READS, SLOTS, TOP, TxId, WIDTH, WRITES};
 
-// The ids of the occupied slots, in slot order: the front of `ids` that is filled.
-pub fn gather<'a>(slots: &[[u64; WIDTH]], ids: &'a mut [u64]) -> &'a [u64]
+// The ids of the occupied slots, in slot order, at the front of `ids`; how many they are. A count and no slice of `ids`: of a buffer that is
+// lent on in the answer no clause could say what it holds afterwards.
+pub fn gather(slots: &[[u64; WIDTH]], ids: &mut [u64]) -> usize
     requires { base.slots ≤ length ids.old }
-    ensures few { length result.now ≤ base.slots }
-    ensures all { result.now ≡ occupied words.ID (take base.slots slots.now) }
+    ensures { Gathered slots.now ids.new result }
 {
     let mut k = 0;
     for slot in slots::counted(slots) {
@@ -23,7 +23,7 @@ pub fn gather<'a>(slots: &[[u64; WIDTH]], ids: &'a mut [u64]) -> &'a [u64]
         ids[k] = slot[ID];
         k += usize::from(slot[ID] != 0);
     }
-    &ids[..k]
+    k
 }
 
 // The id, the snapshot, no writes, no records. The words past the counts stay as they lie.
@@ -47,7 +47,7 @@ pub fn occupy(slots: &mut [[u64; WIDTH]], s: usize, id: u64)
 {
     slots[s][ID] = id;
     let snapshot = slots::snapshot_of(slots, id + 1);
-    let mut buffer = [0; SLOTS];
-    let ids = gather(slots, &mut buffer);
-    open_slot(&mut slots[s], TxId(id), snapshot, ids);
+    let mut ids = [0; SLOTS];
+    let count = gather(slots, &mut ids);
+    open_slot(&mut slots[s], TxId(id), snapshot, &ids[..count]);
 }

@@ -2,7 +2,7 @@
 #![tactic(auto)]
 
 ghost use Rattle.std.specs.Prelude.{◌≡◌};
-ghost use Rattle.kinds.specs.Results.{reading};
+ghost use Rattle.kinds.specs.Results.{seen};
 ghost use Rattle.kinds.specs.Versions.{given};
 ghost use Rattle.told.specs.Numbers as spec;
 ghost use Rattle.told.specs.Numbers.{number_in, about_in, chosen};
@@ -36,23 +36,24 @@ pub fn about<T>(answer: &Result<T, Refusal>) -> u64
     }
 }
 
-// Which of the three.
-pub fn kind(found: Reading) -> u64
-    ensures { result ≡ spec.kind (reading found) }
+// Which of the three; of a refused read as of no version.
+pub fn kind(answer: &Result<Reading, Refusal>) -> u64
+    ensures { result ≡ spec.kind (seen answer.now) }
 {
-    match found {
-        Reading::None => NO_VERSION,
-        Reading::Empty => NO_KEY,
-        Reading::Key(_) => A_KEY,
+    match answer {
+        Ok(Reading::None) | Err(_) => NO_VERSION,
+        Ok(Reading::Empty) => NO_KEY,
+        Ok(Reading::Key(_)) => A_KEY,
     }
 }
 
-pub fn read_key(found: Reading) -> u64
-    ensures { result ≡ spec.read_key (reading found) }
+// The key; 0 where there is none.
+pub fn read_key(answer: &Result<Reading, Refusal>) -> u64
+    ensures { result ≡ spec.read_key (seen answer.now) }
 {
-    match found {
-        Reading::None | Reading::Empty => 0,
-        Reading::Key(key) => key,
+    match answer {
+        Ok(Reading::None | Reading::Empty) | Err(_) => 0,
+        Ok(Reading::Key(key)) => *key,
     }
 }
 

@@ -21,7 +21,6 @@ ghost use Rattle.vizzaluna.specs.Seen.{Made, Began, Read, Wrote, Ended, Swept, F
 ghost use Rattle.vizzaluna.specs.Constants.{constants};
 
 use constants::{CONSTANTS, COUNT, REPORT_WORDS};
-use kinds::Reading;
 use records::Slot;
 use told::number_of;
 use words::{CELL_WORDS, TxId, WIDTH};
@@ -80,9 +79,8 @@ pub extern "C" fn vizzaluna_read(
         result kind.new key.new about.new (lent meta.now rows.now cells.now slots.new) }
 {
     let answer = store::read(meta, rows, cells, slots, slot, TxId(id), row);
-    let found = answer.unwrap_or(Reading::None);
-    *kind = told::kind(found);
-    *key = told::read_key(found);
+    *kind = told::kind(&answer);
+    *key = told::read_key(&answer);
     *about = told::about(&answer);
     number_of(&answer)
 }
@@ -169,13 +167,10 @@ pub extern "C" fn vizzaluna_vacuum(
         result count.new kind.new key.new about.new (lent meta.new rows.now cells.new slots.now) reports.old reports.new }
 {
     let answer = store::vacuum(meta, rows, cells, slots, row, request, reports);
-    let (gone, live) = match answer {
-        Ok(done) => (done.count, done.live),
-        Err(_) => (0, Reading::None),
-    };
-    *count = gone;
-    *kind = told::kind(live);
-    *key = told::read_key(live);
+    let live = answer.map(|done| done.live);
+    *count = answer.map_or(0, |done| done.count);
+    *kind = told::kind(&live);
+    *key = told::read_key(&live);
     *about = told::about(&answer);
     number_of(&answer)
 }

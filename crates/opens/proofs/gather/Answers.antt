@@ -12,4 +12,4 @@ loop-slot-preserved c = (
 )
 
 pub returns : goal.returns
-returns c = record { few = simp length-take (omega (arith, simp length-take at (ap length c.counted-slot-items.ensures))); all = gathered_all _ _ _ _ c.loop-slot-test.false c.loop-slot.invariant.2 ∙ ap (occupied ID) c.counted-slot-items.ensures }
+returns c = record { few = omega (arith, simp length-take at (ap length c.counted-slot-items.ensures)); all = gathered_all _ _ _ _ c.loop-slot-test.false c.loop-slot.invariant.2 ∙ ap (occupied ID) c.counted-slot-items.ensures }
