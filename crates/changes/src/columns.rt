@@ -15,7 +15,7 @@ pub enum Column {
 }
 
 impl Column {
-    pub fn arena(self) -> Arena {
+    pub(crate) fn arena(self) -> Arena {
         match self {
             Column::List(list) => list,
             Column::Slot(_) => Arena::Slots,
@@ -24,7 +24,7 @@ impl Column {
         }
     }
 
-    pub fn len(self) -> usize {
+    pub(crate) fn len(self) -> usize {
         match self {
             Column::List(_) => WORDS,
             Column::Slot(_) => WIDTH,
@@ -33,7 +33,7 @@ impl Column {
     }
 
     // Where its i-th word lies.
-    pub fn spot(self, i: usize) -> Spot {
+    pub(crate) fn spot(self, i: usize) -> Spot {
         let (entry, word) = match self {
             Column::List(_) => (0, i),
             Column::Slot(slot) => (slot, i),
@@ -47,7 +47,7 @@ impl Column {
     }
 
     // A link of the free list, a row listed and a cell reported often number the next one: there a run rises.
-    pub fn rise(self) -> u64 {
+    pub(crate) fn rise(self) -> u64 {
         match self {
             Column::List(Arena::Results) | Column::CellWord(LINK) | Column::ReportWord(0) => 1,
             _ => 0,

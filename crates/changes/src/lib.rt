@@ -4,9 +4,10 @@
 mod columns;
 mod runs;
 
-use columns::Column;
+pub use columns::Column;
 use handmade::{Arena, Memory, REPORT_WORDS, SLOTS, Spot};
-use runs::{Run, say_run};
+pub use runs::Run;
+use runs::say_run;
 use std::io;
 use std::io::Write;
 use words::CELL_WORDS;

@@ -18,7 +18,7 @@ pub struct Run {
 
 impl Run {
     // The i-th word alone, which became x.
-    pub fn new(i: usize, x: u64) -> Run {
+    pub(crate) fn new(i: usize, x: u64) -> Run {
         Run {
             from: i,
             to: i,
@@ -28,7 +28,7 @@ impl Run {
     }
 
     // The run with the i-th word, which became x; none where that begins another.
-    pub fn with(self, i: usize, x: u64, rise: u64) -> Option<Run> {
+    pub(crate) fn with(self, i: usize, x: u64, rise: u64) -> Option<Run> {
         let is_next = self.to.wrapping_add(1) == i && self.last.wrapping_add(rise) == x;
         is_next.then_some(Run {
             to: i,

@@ -1,5 +1,5 @@
 -- The rows that a lookup reads, as marks: what marking and testing a list of rows comes to, member by member.
-use Rattle.std.specs.Prelude.{ℕ, ◌<◌, Bool, true, false, ◌||◌, cond, ◌≡◌, refl, length, get_or, set, eqb, leb}
+use Rattle.std.specs.Prelude.{ℕ, ◌+◌, ◌-◌, ◌<◌, ◌≤◌, Bool, true, false, ◌||◌, cond, ◌≡◌, refl, length, get_or, set, eqb, leb}
 use mathlib.Core.List.{List, [], ◌∷◌}
 use Rattle.std.proofs.Math.Path.{ap}
 use Rattle.std.proofs.Common.{◌∙◌, length-set, get_or-set_same, get_or-set_other, eq-eqb, ne_eqb}
@@ -8,6 +8,9 @@ use Rattle.kinds.specs.Verdict.{Fine, Refused}
 use Rattle.words.specs.Sizes.{base}
 use Rattle.rules.specs.Numbers.{bad_row, damaged}
 use Rattle.words.specs.Lists.{has, fold, nonzero}
+use Rattle.words.specs.Slots.{write, threes}
+use Rattle.words.specs.WordLaws.{threes_step, threes_done}
+use Rattle.rules.specs.Lookup.{own_rows}
 use Rattle.rules.specs.Outcome.{Test, test, each}
 use Rattle.rules.specs.Verdicts.{verdict}
 use Rattle.rules.proofs.Verdicts.{verdict_none, verdict_each}
@@ -23,6 +26,15 @@ candidate_test r q = test (leb r q) bad_row q ∷ []
 
 abbrev pub own_row_test : ℕ → ℕ → List Test
 own_row_test r q = test (leb r q) damaged 0 ∷ []
+
+-- ---- the rows of a write set, as its entries lie from word a on
+
+module _ (t : List ℕ) (a k : ℕ) where
+  pub own_rows_next : 0 < k → own_rows (threes write t a k) ≡ get_or t a 0 ∷ own_rows (threes write t (a + 3) (k - 1))
+  own_rows_next h = ap own_rows (threes_step write t a k h)
+
+  pub own_rows_end : k ≤ 0 → own_rows (threes write t a k) ≡ []
+  own_rows_end h = ap own_rows (threes_done write t a k h)
 
 -- ---- one member more, of a list l that is x and l'
 

@@ -1,7 +1,7 @@
 -- What a caller knows where the first tests are fine: that the arenas are long enough for the saved sizes, that the clock runs, and that
 -- the named slot is the presented id's, its counts within their limits.
-use Rattle.std.specs.Prelude.{ℕ, true, List, ◌∷◌, ◌≡◌, refl, length, get_or, leb}
-use Rattle.std.proofs.Common.{sym, ◌∙◌, leb-true, leb-false, ltb-false, eqb-true}
+use Rattle.std.specs.Prelude.{ℕ, ◌<◌, true, false, List, ◌∷◌, ◌≡◌, refl, length, get_or, leb}
+use Rattle.std.proofs.Common.{sym, ◌∙◌, arith, leb-true, leb-false, ltb-false, eqb-true}
 use Rattle.std.proofs.lemmas.Bool.{eqb-false, not-false, and_parts, or_parts}
 use Rattle.kinds.specs.Verdict.{Verdict, Fine, Refused}
 use Rattle.words.specs.Sizes.{Sizes, meta_words, ID, ACTIVE, WRITES, READS}
@@ -33,6 +33,14 @@ fits_true {z} m r n h =
       cells = leb-true n (length m.cells) k.0;
       slots = leb-true z.slots (length m.slots) k.1;
     }
+
+-- nothing fits a meta that is too short
+fits_short : {z : Sizes} (m : Mem z) (r n : ℕ) → length m.meta < meta_words → fits m r n ≡ false
+fits_short m r n h = by_bool (fits m r n) (λ e. absurd (let f = fits_true m r n e in omega arith)) (λ e. e)
+
+-- nor is a clock saved there
+pub broken_short : {z : Sizes} (m : Mem z) → length m.meta < meta_words → broken m ≡ true
+broken_short m h = rw (fits_short m (size_r m) (size_n m) h)
 
 pub store_fine : {z : Sizes} (m : Mem z) → verdict (store_tests m) ≡ Fine → StoreFine m
 unfolding store_tests verdict

@@ -1,11 +1,12 @@
 -- Abort: what a fine judgement gives the changes. Giving back looks at the saved words and the cells alone, so what is promised of those two
 -- arenas holds of a whole memory.
-use Rattle.std.specs.Prelude.{ℕ, ◌≤◌, List, [], ◌∷◌, ◌≡◌, refl, length}
+use Rattle.std.specs.Prelude.{ℕ, ◌+◌, ◌-◌, ◌<◌, ◌≤◌, List, [], ◌∷◌, ◌≡◌, refl, length, get_or}
 use Rattle.std.proofs.Common.{sym, ap, ◌∙◌}
 use Rattle.kinds.specs.Verdict.{Fine}
 use Rattle.words.specs.Sizes.{Sizes, base}
 use Rattle.words.specs.Lists.{fold}
-use Rattle.words.specs.Slots.{Write}
+use Rattle.words.specs.Slots.{Write, write, threes}
+use Rattle.words.specs.WordLaws.{threes_step, threes_done}
 use Rattle.rules.specs.Memory.{Mem, mem, size_n}
 use Rattle.rules.specs.Outcome.{each}
 use Rattle.rules.specs.Verdicts.{verdict}
@@ -40,6 +41,17 @@ give_none m = refl
 pub give_step : (c : ℕ) (l : List ℕ) (m : Mem base) → fold give_back (c ∷ l) m ≡ fold give_back l (give_back c m)
 unfolding fold
 give_step c l m = refl
+
+-- ---- the same of a slot's entries, as they lie from word a on
+
+module _ (t : List ℕ) (a k : ℕ) (m : Mem base) where
+  pub give_none_at : k ≤ 0 → fold give_back (news (threes write t a k)) m ≡ m
+  unfolding fold
+  give_none_at h = rw (threes_done write t a k h)
+
+  pub give_step_at : 0 < k → fold give_back (news (threes write t a k)) m ≡ fold give_back (news (threes write t (a + 3) (k - 1))) (give_back (get_or t (a + 2) 0) m)
+  unfolding fold
+  give_step_at h = rw (threes_step write t a k h)
 
 -- what is there stays there where the length does
 pub still_cell : (cs ds : List (List ℕ)) (c : ℕ) → length ds ≡ length cs → HasCell cs c → HasCell ds c

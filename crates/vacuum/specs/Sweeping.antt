@@ -79,7 +79,7 @@ module _ (cs buf : List (List ℕ)) (hz h count : ℕ) (s : Sweepable cs hz h co
     pub sweep_reported : rs ≡ sets buf 0 (reports cs (gone cs hz h))
     sweep_reported = rw ev at er
 
-    sweep_room : count ≤ length rs
+    pub sweep_room : count ≤ length rs
     sweep_room = rw (sweep_reported, length-sets buf 0 (reports cs (gone cs hz h))) s.fit
 
     -- the first words of the reports that were stored

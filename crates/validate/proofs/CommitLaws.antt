@@ -1,12 +1,13 @@
 -- What a commit's tests come to as a whole, and what a fine judgement gives the changes: every number of the write set that they use is one
 -- of a row or a cell that is there.
-use Rattle.std.specs.Prelude.{ℕ, ◌==◌, ◌≤◌, true, false, List, [], ◌∷◌, ◌++◌, ◌≡◌, refl, length}
+use Rattle.std.specs.Prelude.{ℕ, ◌+◌, ◌==◌, ◌<◌, ◌≤◌, min, true, false, List, [], ◌∷◌, ◌++◌, ◌≡◌, refl, ◌≢◌, length, get_or}
 use Rattle.std.proofs.Math.Path.{ap}
 use Rattle.std.proofs.Common.{◌∙◌, arith}
 use Rattle.std.proofs.lemmas.Bool.Decides.{nat_tests}
 use Rattle.kinds.specs.Verdict.{Verdict, Fine}
-use Rattle.words.specs.Sizes.{Sizes, base}
-use Rattle.words.specs.Slots.{Slot, Write}
+use Rattle.words.specs.Sizes.{Sizes, base, WRITES}
+use Rattle.words.specs.Slots.{Slot, Write, write, threes, slot_of}
+use Rattle.words.specs.WordLaws.{threes_step, threes_done}
 use Rattle.lists.specs.Triples.{entry, entries}
 use Rattle.rules.specs.Memory.{Mem, mem, size_r, size_n}
 use Rattle.rules.specs.Outcome.{each}
@@ -38,6 +39,18 @@ module _ {z : Sizes} (m : Mem z) (t : Slot) where
   pub judge_some : (ts : List (List ℕ)) (ws : List Write) → entries ts ≡ ws → (length ts == 0) ≡ false → verdict (commit_tests m t ws) ≡ judged m t ws
   judge_some [] ws e h = cc
   judge_some (x ∷ l) ws e h = rw (← e) (commit_some (entry x) (entries l))
+
+  -- by the slot's count of writes
+  commit_threes : (u : List ℕ) (a k : ℕ) → 0 < k → verdict (commit_tests m t (threes write u a k)) ≡ judged m t (threes write u a k)
+  commit_threes u a k h = rw (threes_step write u a k h) (commit_some _ _)
+
+  pub judge_none_at : (u : List ℕ) → get_or u (WRITES base) 0 ≡ 0 → verdict (commit_tests m t (slot_of base u).writes) ≡ Fine
+  unfolding slot_of commit_tests verdict
+  judge_none_at u e = rw (threes_done write u (WRITES base + 1) (min (get_or u (WRITES base) 0) base.writes) (omega arith))
+
+  pub judge_some_at : (u : List ℕ) → get_or u (WRITES base) 0 ≢ 0 → verdict (commit_tests m t (slot_of base u).writes) ≡ judged m t (slot_of base u).writes
+  unfolding slot_of
+  judge_some_at u e = commit_threes u (WRITES base + 1) (min (get_or u (WRITES base) 0) base.writes) (omega arith)
 
 -- the tests look at no slot but their own: a whole memory is judged as its three arenas are
 pub commit_whole : (a r : List ℕ) (c s : List (List ℕ)) (t : Slot) (ws : List Write) → commit_tests {z = base} (mem a r c s) t ws ≡ commit_tests (lent a r c) t ws
