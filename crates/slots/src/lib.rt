@@ -79,6 +79,7 @@ pub fn snapshot_of(slots: &[[u64; WIDTH]], clock: u64) -> Snapshot
 }
 
 // The least of the request, the clock and the snapshot xmin of all occupied slots.
+#[tactic(auto, unfolding(rules::specs::Snapshot::horizon_of))]
 pub fn horizon(slots: &[[u64; WIDTH]], clock: u64, request: u64) -> u64
     ensures { result ≡ horizon_of request clock (take base.slots slots.now) }
 {

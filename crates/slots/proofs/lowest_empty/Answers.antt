@@ -1,4 +1,5 @@
-use Rattle.std.proofs.Common.{◌∙◌, sym, subst, rules, tests, take}
+use Rattle.std.specs.Prelude.{◌≡◌, position}
+use Rattle.std.proofs.Common.{◌∙◌, subst, rules, tests, take}
 use Rattle.std.proofs.lemmas.Iterator.{YieldsList-from_slice}
 use Rattle.std.proofs.lemmas.Iterator.Search.{position_from_yields_List}
 use Rattle.words.specs.Sizes.{base}
@@ -8,6 +9,6 @@ use Rattle.slots.proofs.lowest_empty.Goals as goal
 
 pub returns : goal.returns
 returns c =
-    subst (IsLowestEmpty (take base.slots c.args.slots.now))
-    (sym (position_from_yields_List is_empty _ _ c.position.result c.position.ensures.ran (YieldsList-from_slice _ (c.iter.ensures.rest ∙ c.counted.ensures)) (λ x b q k. search (rules, tests))))
-    (lowest_position (take base.slots c.args.slots.now))
+    let lent = take base.slots c.args.slots.now in
+    let found : c.position.result ≡ position is_empty lent = position_from_yields_List is_empty _ _ c.position.result c.position.ensures.ran (YieldsList-from_slice _ (c.iter.ensures.rest ∙ c.counted.ensures)) (λ x b q k. search (rules, tests)) in
+    subst (IsLowestEmpty lent) (search (rules, tests, found)) (lowest_position lent)
