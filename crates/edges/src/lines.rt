@@ -26,7 +26,12 @@ fn carry_out<W: Write>(to: &mut W, mem: &mut Memory, line: &[u8]) -> io::Result<
     let Some(verb) = Verb::named(word) else {
         return writeln!(to, "?");
     };
-    match (verb, Args::parse(rest, verb)) {
+    // the words of a case are told as they stand, and not read
+    let args = match verb {
+        Verb::Case => None,
+        _ => Args::parse(rest, verb),
+    };
+    match (verb, args) {
         (Verb::Case, _) => say_line(to, line),
         (_, None) => {
             write!(to, "? not understood: ")?;
