@@ -27,7 +27,7 @@ ROWS = [
     ("4 the lesser, by hand", SRC, r"fn (at_most|slots_in|lesser|fewer|cut|raised|lowered)\b|if (\w+) < [\w ]+ \{ \2"),
     ("4 copied or filled one by one", SRC, r"^ +\w+(\[[^\]]+\])+ = (\w+\[[^\]]+\](\[[^\]]+\])?|w\[i\]|0|\[0; WIDTH\]);"),
     ("5 functions over an arena of cells", SRC, r"^ *cells: &(mut )?\[\[u64"),
-    ("5 facts asked for", SRC, r"requires.*(HasCell|SlotFine|StoreFine|meta_words ≤|Lent \(|Sane \()"),
+    ("5 facts asked for", SRC, r"requires.*(HasCell|SlotFine|StoreFine|meta_words ≤|Lent |Sane )"),
     ("6 a length beside a buffer", SRC, r"^ *(count|end|n): usize,|(ids|listed|reports|numbers|args|results)[^)]*, (count|n|end): (u64|usize)"),
     ("7 a number that says which step", SRC, r"match (verb|of) \{|if (verb|of|self\.arena) (==|<) "),
     ("8 answers", ANSWERS, r"^pub \S+ : goal\."),
