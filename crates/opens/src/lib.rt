@@ -12,7 +12,7 @@ use slots::Snapshot;
 use words::{ACTIVE, ID, LOW, READS, SLOTS, TOP, TxId, WIDTH, WRITES};
 
 // The ids of the occupied slots, in slot order, at the front of `ids`; how many they are. A count and no slice of `ids`: of a buffer that is
-// lent on in the answer no clause could say what it holds afterwards.
+// lent on in the answer no ordinary `ensures` could say what it holds afterwards.
 pub fn gather(slots: &[[u64; WIDTH]], ids: &mut [u64]) -> usize
     requires { base.slots ≤ length ids.old }
     ensures { Gathered slots.now ids.new result }
